@@ -1,0 +1,45 @@
+ghost use mathlib.Core.Path.{_≡_};
+ghost use Prim.Native.Nat.{ℕ, _+_, _*_, _≤_, _<_};
+ghost use lib.ListN.{length, getD, replicate};
+ghost use Rattle.lists.specs.Lists.{total, largest};
+
+// Sets every entry to 0.
+pub fn clear(part: &mut [u16])
+    ensures { λ _. ⌜ now (part .exit) ≡ replicate {A = ℕ} (length (now (part .entry))) 0 ⌝ }
+{
+    let mut i = 0;
+    while i < part.len() {
+        part[i] = 0;
+        i += 1;
+    }
+}
+
+// The sum of all entries; up to 65,536 of them fit.
+pub fn sum(part: &[u16]) -> u32
+    requires { ⌜ length (now part) ≤ 65536 ⌝ }
+    ensures { λ r. ⌜ r ≡ total (now (part .entry)) ⌝ }
+{
+    let mut sum = 0u32;
+    let mut i = 0;
+    while i < part.len() {
+        sum += part[i] as u32;
+        i += 1;
+    }
+    sum
+}
+
+// The largest entry, 0 where there is none.
+pub fn greatest(part: &[u16]) -> u16
+    ensures { λ r. ⌜ r ≡ largest (now (part .entry)) ⌝ }
+{
+    let mut most = 0u16;
+    let mut i = 0;
+    while i < part.len() {
+        let x = part[i];
+        if most < x {
+            most = x;
+        }
+        i += 1;
+    }
+    most
+}

@@ -1,0 +1,6 @@
+pub mod Count
+pub mod Window
+pub mod Round
+pub mod Slots
+pub mod Optimal
+pub mod Sends

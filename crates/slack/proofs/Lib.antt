@@ -1,0 +1,10 @@
+pub mod Signed
+pub mod Joined
+pub mod Rule
+pub mod Ending
+mod Bits
+mod Search
+mod Looking
+mod Sending
+mod Walking
+mod Running

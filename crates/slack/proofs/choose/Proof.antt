@@ -1,0 +1,72 @@
+-- `slack::choose` meets its contract: after i turns the slot is what the first i rows make it.
+-- Assumes nothing.
+use mathlib.Core.Path.{_≡_, _∙_, ap}
+use Prim.Native.Nat.{_≤_, _-_}
+use native.Mathlib.Numerals.{add-one}
+use native.Mathlib.Omega.{arith}
+use lib.ListN.{length}
+use Rattle.slack.specs.Slack.{traffic}
+use Rattle.slack.specs.Steps.{seen}
+use Rattle.slack.proofs.Looking.{none-looked, all-looked, seen-length}
+use Rattle.slack.proofs.choose.Statement.{statement}
+use Rattle.slack.proofs.choose.Tie as tie
+use Rattle.slack.proofs.choose.Reads as reads
+use Rattle.slack.proofs.choose.Lts as lts
+use Rattle.lists.proofs.clear.Reads as clear-reads
+use Rattle.slack.proofs.look.Reads as look-reads
+
+abbrev Inv-loop : tie.InvT-loop
+Inv-loop nodes dst due left t slot₀ i₀ slot i = (i ≤ length left) × (slot ≡ seen (traffic nodes dst due) (t .0) left i)
+
+abbrev μ-loop : tie.MeasureT-loop
+μ-loop nodes dst due left t slot₀ i₀ slot i = length left - i
+
+clear-requires : tie.Need-clear-requires Inv-loop μ-loop
+clear-requires c κs = tt
+
+loop-holds : tie.Need-loop-holds Inv-loop μ-loop
+loop-holds c =
+    let a = c .before .before .before .before .before .before .before .before .args in
+    let T = traffic (a .nodes) (a .dst .now) (a .due .now) in
+    (omega arith, c .before .before .clear .ensures ∙ none-looked T (a .t .0) (a .left .now) _ (c .before .before .before .before .before .before .before .before .pre .2))
+
+look-requires : tie.Need-look-requires Inv-loop μ-loop
+look-requires c κs = record { ring = c .before .before .before .before .before .before .before .before .before .before .before .pre .0; few = c .before .before .before .before .before .before .before .before .before .before .before .pre .1; row = omega arith; so-far = c .before .before .loop .inv .1 }
+
+add-i : tie.Need-add-i Inv-loop μ-loop
+add-i c = omega arith
+
+loop-less : tie.Need-loop-less Inv-loop μ-loop
+loop-less c = omega arith
+
+loop-again : tie.Need-loop-again Inv-loop μ-loop
+loop-again c = (omega arith, c .before .before .look .ensures ∙ rw (add-one))
+
+same-length : tie.Need-same-length Inv-loop μ-loop
+same-length c =
+    let a = c .before .before .before .before .before .before .before .before .before .before .args in
+    let T = traffic (a .nodes) (a .dst .now) (a .due .now) in
+    let all : length (c .before .loop .slot) ≡ T .nodes = ap length (c .before .loop .inv .1) ∙ seen-length T (a .t .0) (a .left .now) (c .before .loop .i) in
+    omega (arith, c .before .before .before .before .before .before .before .before .before .before .pre .2)
+
+returns : tie.Need-returns Inv-loop μ-loop
+returns c =
+    let a = c .before .before .before .before .before .before .before .before .before .before .args in
+    let T = traffic (a .nodes) (a .dst .now) (a .due .now) in
+    let all : c .before .loop .i ≡ length (a .left .now) = omega arith in
+    c .before .loop .inv .1 ∙ rw all (all-looked T (a .t .0) (a .left .now))
+
+pub choose-spec : {M : Type 1} → statement M
+choose-spec =
+    tie.close
+    (tie.spec
+    Inv-loop
+    μ-loop
+    clear-requires
+    loop-holds
+    look-requires
+    add-i
+    loop-less
+    loop-again
+    same-length
+    returns)

@@ -1,0 +1,136 @@
+-- `slack::send` meets its contract: after p turns the rows that the first p links name have been moved and stamped.
+-- Assumes nothing.
+use mathlib.Core.Path.{_≡_, _∙_, ap, sym}
+use mathlib.Core.Logic.{⊎-elim}
+use Prim.Native.Nat.{_+_, _≤_, _-_}
+use native.Mathlib.Numerals.{add-one}
+use native.Mathlib.Omega.{arith}
+use lib.ListN.{length, take}
+use lib.Seq.{take-all}
+use Rattle.slack.specs.Steps.{less, stamped}
+use Rattle.slack.proofs.Sending.{left-first, arrivals-first, left-long, arrivals-long, left-idle, arrivals-idle, row-inside, left-some, left-sent, arrivals-sent}
+use Rattle.slack.proofs.send.Statement.{statement}
+use Rattle.slack.proofs.send.Tie as tie
+use Rattle.slack.proofs.send.Reads as reads
+use Rattle.slack.proofs.send.Lts as lts
+
+abbrev Inv-loop : tie.InvT-loop
+Inv-loop slot left₀ arrivals₀ end p₀ left arrivals p = (p ≤ length slot) × (left ≡ less (take p slot) left₀) × (arrivals ≡ stamped (take p slot) end arrivals₀)
+
+abbrev μ-loop : tie.MeasureT-loop
+μ-loop slot left₀ arrivals₀ end p₀ left arrivals p = length slot - p
+
+add-end : tie.Need-add-end Inv-loop μ-loop
+add-end c = omega arith
+
+loop-holds : tie.Need-loop-holds Inv-loop μ-loop
+loop-holds c =
+    let k = c .before .pre .0 in
+    (omega arith, left-first k (c .before .args .t .0 + 1), arrivals-first k (c .before .args .t .0 + 1))
+
+mul-row : tie.Need-mul-row Inv-loop μ-loop
+mul-row c = omega arith
+
+shared-slice-read-row : tie.Need-shared-slice-read-row Inv-loop μ-loop
+shared-slice-read-row c = omega arith
+
+sub-i : tie.Need-sub-i Inv-loop μ-loop
+sub-i c = omega arith
+
+cast-i : tie.Need-cast-i Inv-loop μ-loop
+cast-i c = omega (arith, c .before .shared-slice-known .given (c .before .before .before .loop .p))
+
+mul-left : tie.Need-mul-left Inv-loop μ-loop
+mul-left c = omega (arith, c .before .shared-slice-known .given (c .before .before .before .loop .p))
+
+slice-read-left : tie.Need-slice-read-left Inv-loop μ-loop
+slice-read-left c =
+    let k = c .before .before .before .before .before .before .pre .0 in
+    let end = c .before .before .before .before .before .before .args .t .0 + 1 in
+    let p = c .before .before .before .before .loop .p in
+    omega (arith, row-inside k end p (omega arith) (omega arith), left-long k end p, ap length (c .before .before .before .before .loop .inv .1))
+
+sub-left : tie.Need-sub-left Inv-loop μ-loop
+sub-left c =
+    let k = c .before .before .before .before .before .before .pre .0 in
+    let end = c .before .before .before .before .before .before .args .t .0 + 1 in
+    let p = c .before .before .before .before .loop .p in
+    rw (c .before .before .before .before .loop .inv .1) (left-some k end p (omega arith) (omega arith))
+
+mul-left-2 : tie.Need-mul-left-2 Inv-loop μ-loop
+mul-left-2 c = omega (arith, c .before .before .shared-slice-known .given (c .before .before .before .before .loop .p))
+
+slice-write-left : tie.Need-slice-write-left Inv-loop μ-loop
+slice-write-left c =
+    let k = c .before .before .before .before .before .before .pre .0 in
+    let end = c .before .before .before .before .before .before .args .t .0 + 1 in
+    let p = c .before .before .before .before .loop .p in
+    omega (arith, row-inside k end p (omega arith) (omega arith), left-long k end p, ap length (c .before .before .before .before .loop .inv .1))
+
+mul-arrivals : tie.Need-mul-arrivals Inv-loop μ-loop
+mul-arrivals c = omega (arith, c .before .before .shared-slice-known .given (c .before .before .before .before .loop .p))
+
+slice-write-arrivals : tie.Need-slice-write-arrivals Inv-loop μ-loop
+slice-write-arrivals c =
+    let k = c .before .before .before .before .before .before .pre .0 in
+    let end = c .before .before .before .before .before .before .args .t .0 + 1 in
+    let p = c .before .before .before .before .loop .p in
+    omega (arith, row-inside k end p (omega arith) (omega arith), arrivals-long k end p, ap length (c .before .before .before .before .loop .inv .2))
+
+add-p : tie.Need-add-p Inv-loop μ-loop
+add-p c = omega arith
+
+loop-less : tie.Need-loop-less Inv-loop μ-loop
+loop-less c = omega arith
+
+loop-again : tie.Need-loop-again Inv-loop μ-loop
+loop-again c =
+    let k = c .before .before .before .before .before .pre .0 in
+    let end = c .before .before .before .before .before .args .t .0 + 1 in
+    let p = c .before .before .before .loop .p in (
+      omega arith,
+      ⊎-elim (λ w. w .2 ∙ left-sent k end p (omega arith) (w .0 .taken) _ (c .before .before .before .loop .inv .1)) (λ w. w .1 ∙ c .before .before .before .loop .inv .1 ∙ left-idle k end p (omega arith) (omega arith)) (c .if1 .came),
+      ⊎-elim (λ w. w .3 ∙ arrivals-sent k end p (omega arith) (w .0 .taken) _ (c .before .before .before .loop .inv .2)) (λ w. w .2 ∙ c .before .before .before .loop .inv .2 ∙ arrivals-idle k end p (omega arith) (omega arith)) (c .if1 .came),
+    )
+
+same-length : tie.Need-same-length Inv-loop μ-loop
+same-length c =
+    let k = c .before .before .before .pre .0 in
+    ap length (c .before .loop .inv .1) ∙ left-long k (c .before .before .before .args .t .0 + 1) (c .before .loop .p)
+
+same-length-2 : tie.Need-same-length-2 Inv-loop μ-loop
+same-length-2 c =
+    let k = c .before .before .before .pre .0 in
+    ap length (c .before .loop .inv .2) ∙ arrivals-long k (c .before .before .before .args .t .0 + 1) (c .before .loop .p) ∙ sym (k .rows)
+
+returns : tie.Need-returns Inv-loop μ-loop
+returns c =
+    let slot = c .before .before .before .args .slot .now in
+    let all : take (c .before .loop .p) slot ≡ slot = take-all (c .before .loop .p) slot (omega arith) in
+    (c .before .loop .inv .1 ∙ rw all, c .before .loop .inv .2 ∙ rw (all, add-one))
+
+pub send-spec : {M : Type 1} → statement M
+send-spec =
+    tie.close
+    (tie.spec
+    Inv-loop
+    μ-loop
+    add-end
+    loop-holds
+    mul-row
+    shared-slice-read-row
+    sub-i
+    cast-i
+    mul-left
+    slice-read-left
+    sub-left
+    mul-left-2
+    slice-write-left
+    mul-arrivals
+    slice-write-arrivals
+    add-p
+    loop-less
+    loop-again
+    same-length
+    same-length-2
+    returns)

@@ -1,0 +1,84 @@
+-- The table of document 01, and what is wrong with one.
+use Prim.Native.Nat.{ℕ, zero, suc}
+use mathlib.Core.Path.{_≡_}
+use mathlib.Core.Bool.{Bool, cond, _||_}
+use mathlib.Core.List.{List, [], _∷_, map, _++_}
+use lib.Dec.{eqb, ltb, leb}
+use lib.ListN.{length, getD, take, replicate}
+use Rattle.lists.specs.Lists.{build, largest}
+use Rattle.ring.specs.Ring.{distance}
+use Rattle.table.specs.declared.Row.{Row}
+use Rattle.table.specs.declared.Columns.{Columns}
+use Rattle.table.specs.declared.Refusal.{Refusal}
+use Rattle.table.specs.declared.Verdict.{Verdict}
+use Rattle.table.specs.declared.Verdict.the-variants.{Good, Refused}
+
+-- The most rows that a table may have.
+abbrev pub most-rows : ℕ
+most-rows = 512
+
+-- The latest due slot that a row may have.
+abbrev pub latest-due : ℕ
+latest-due = 1024
+
+-- A refusal by number, row and slot.
+abbrev pub refuse : (number row slot : ℕ) → Refusal
+refuse number row slot = record { number = number; row = row; slot = record { 0 = slot } }
+
+-- What is wrong with one row of a table for n nodes: 3, 4, 5 or 6, in this order, and 0 where nothing is.
+unfoldable pub rowRefusal : ℕ → Row → ℕ
+rowRefusal n r =
+    cond (leb n (r .src)) 3
+    (cond (leb n (r .dst)) 4
+    (cond (eqb (r .src) (r .dst)) 5
+    (cond (eqb (r .due) 0 || ltb latest-due (r .due)) 6 0)))
+
+-- The refusal of the first bad row, where `above` rows stand above the list.
+unfoldable pub judgeRows : ℕ → List Row → ℕ → Verdict
+judgeRows n [] above = Good
+judgeRows n (r ∷ rs) above =
+    cond (eqb (rowRefusal n r) 0) (judgeRows n rs (suc above)) (Refused (refuse (rowRefusal n r) (suc above) 0))
+
+-- The first of refusals 1 to 6 that holds: 1 for the nodes, 2 for too many rows, then the rows in order.
+unfoldable pub judge : ℕ → List Row → Verdict
+judge n rows =
+    cond (ltb n 2 || ltb 32 n) (Refused (refuse 1 0 0))
+    (cond (ltb most-rows (length rows)) (Refused (refuse 2 0 0)) (judgeRows n rows 0))
+
+-- No refusal before 7 holds.
+abbrev pub WellFormed : ℕ → List Row → Type 0
+WellFormed n rows = judge n rows ≡ Good
+
+-- The sources, destinations and due slots of a list of rows.
+unfoldable pub sources : List Row → List ℕ
+sources = map (λ (r : Row). r .src)
+
+unfoldable pub destinations : List Row → List ℕ
+destinations = map (λ (r : Row). r .dst)
+
+unfoldable pub dues : List Row → List ℕ
+dues = map (λ (r : Row). r .due)
+
+-- The links that each row has to go at instant 0: the distance from its source to its destination.
+unfoldable pub distances : ℕ → List Row → List ℕ
+distances n = map (λ (r : Row). distance n (r .src) (r .dst))
+
+-- The largest due slot, 0 for an empty table.
+unfoldable pub lastDue : List Row → ℕ
+lastDue rows = largest (dues rows)
+
+-- A column of 512 places: the first 512 entries, and 0 behind them.
+unfoldable pub column : List ℕ → List ℕ
+column xs = take most-rows (xs ++ replicate most-rows 0)
+
+-- The first 512 rows, by columns.
+unfoldable pub columns : List Row → Columns
+columns rows = record { src = column (sources rows); dst = column (destinations rows); due = column (dues rows) }
+
+-- The rows that three columns of one length hold.
+unfoldable pub rowsOf : (src dst due : List ℕ) → List Row
+rowsOf src dst due = build (length src) (λ i. record { src = getD src i 0; dst = getD dst i 0; due = getD due i 0 })
+
+-- The rows that a count and columns of 512 places stand for.
+unfoldable pub listed : ℕ → Columns → List Row
+listed count c = build count (λ i. record { src = getD (c .src) i 0; dst = getD (c .dst) i 0; due = getD (c .due) i 0 })
