@@ -58,3 +58,8 @@ set-build n f g j other =
         rw (s, getD-set-same (build n f) j (g j) 0 l)
     go i h false e =
         getD-set-other (build n f) j i (g j) 0 (borrow.Author.Tests.eqb-false i j e) ∙ getD-build n f i 0 h ∙ sym (other i h (borrow.Author.Tests.eqb-false i j e))
+
+-- a rule applied to each entry
+pub map-build {ℓ ℓ′} : {A : Type ℓ} {B : Type ℓ′} (n : ℕ) (g : A → B) (f : ℕ → A) → map g (build n f) ≡ build n (λ i. g (f i))
+map-build zero g f = refl
+map-build {B} (suc n) g f = ap {B = List B} (λ l. g (f 0) ∷ l) (map-build n g (λ i. f (suc i)))

@@ -2,6 +2,7 @@
 --     total-more, largest-more      of the first i + 1 entries, from those of the first i
 --     total-below                   a sum of entries that are each at most m
 --     at-most-largest               no entry is above the largest
+--     largest-below                 entries that are each at most m
 -- Assumes nothing.
 use mathlib.Core.Path.{_≡_, refl, _∙_, ap, sym}
 use Prim.Native.Nat.{ℕ, zero, suc, _+_, _*_, _≤_, _<_, max}
@@ -41,3 +42,8 @@ unfolding largest
 at-most-largest [] i = omega arith
 at-most-largest (x ∷ xs) zero = omega arith
 at-most-largest (x ∷ xs) (suc i) = omega (arith, at-most-largest xs i)
+
+pub largest-below : (m : ℕ) (xs : List ℕ) → ((i : ℕ) → i < length xs → getD xs i 0 ≤ m) → largest xs ≤ m
+unfolding largest
+largest-below m [] h = omega arith
+largest-below m (x ∷ xs) h = omega (arith, h 0 (omega arith), largest-below m xs (λ i l. h (suc i) (omega arith)))

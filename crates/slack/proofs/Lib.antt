@@ -6,5 +6,5 @@ mod Bits
 mod Search
 mod Looking
 mod Sending
-mod Walking
+pub mod Walking
 mod Running

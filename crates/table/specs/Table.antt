@@ -13,6 +13,10 @@ use Rattle.table.specs.declared.Refusal.{Refusal}
 use Rattle.table.specs.declared.Verdict.{Verdict}
 use Rattle.table.specs.declared.Verdict.the-variants.{Good, Refused}
 
+-- The row of three zeros, which is read past the end of a list.
+abbrev pub none : Row
+none = record { src = 0; dst = 0; due = 0 }
+
 -- The most rows that a table may have.
 abbrev pub most-rows : ℕ
 most-rows = 512

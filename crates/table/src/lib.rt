@@ -1,8 +1,14 @@
 ghost use mathlib.Core.Path.{_≡_};
-ghost use Prim.Native.Nat.{ℕ, _+_, _≤_, _<_};
-ghost use lib.ListN.{length, getD};
-ghost use Rattle.table.specs.Table.{columns, rowRefusal};
+ghost use Prim.Native.Nat.{ℕ, _+_, _≤_, _<_, min};
+ghost use mathlib.Core.List.{[], _++_};
+ghost use lib.ListN.{length, getD, drop};
+ghost use Rattle.lists.specs.Lists.{build};
+ghost use Rattle.ring.specs.Ring.{distance};
+ghost use Rattle.table.specs.Table.{none, columns, listed, rowRefusal, judgeRows, rowsOf};
+ghost use Rattle.table.specs.Steps.{SameRows, Measuring};
+use ring::Node;
 use ring::Slot;
+use ring::links_between;
 
 // One message: where it starts, where it goes, and the instant by which it must be there.
 #[repr(C)]
@@ -52,4 +58,103 @@ pub fn row_refusal(nodes: u16, r: Row) -> u16
         return 6;
     }
     0
+}
+
+// The refusal of the first bad row of three columns, if there is one.
+pub fn judge_rows(nodes: u16, src: &[u16], dst: &[u16], due: &[u16]) -> Verdict
+    requires { ⌜ SameRows (now src) (now dst) (now due) ⌝ }
+    ensures { λ r. ⌜ r ≡ judgeRows nodes (rowsOf (now (src .entry)) (now (dst .entry)) (now (due .entry))) 0 ⌝ }
+{
+    let mut i = 0;
+    while i < src.len() {
+        let r = Row {
+            src: src[i],
+            dst: dst[i],
+            due: due[i],
+        };
+        let number = row_refusal(nodes, r);
+        if number != 0 {
+            return Verdict::Refused(Refusal {
+                number,
+                row: (i + 1) as u16,
+                slot: Slot(0),
+            });
+        }
+        i += 1;
+    }
+    Verdict::Good
+}
+
+// Writes down how many links each row has to go.
+pub fn measure(nodes: u16, src: &[u16], dst: &[u16], left: &mut [u16])
+    requires { ⌜ Measuring nodes (now src) (now dst) (now left) ⌝ }
+    ensures { λ _. ⌜ now (left .exit) ≡ build (length (now (src .entry))) (λ i. distance nodes (getD (now (src .entry)) i 0) (getD (now (dst .entry)) i 0)) ⌝ }
+{
+    let mut i = 0;
+    while i < left.len() {
+        let links = links_between(nodes, Node(src[i]), Node(dst[i]));
+        left[i] = links.0;
+        i += 1;
+    }
+}
+
+// One row of a lent table.
+pub fn row_at(rows: &[Row], i: usize) -> Row
+    requires { ⌜ i < length (now rows) ⌝ }
+    ensures { λ r. ⌜ r ≡ getD (now (rows .entry)) i none ⌝ }
+{
+    rows[i]
+}
+
+// The columns of no rows.
+fn blank() -> Columns
+    ensures { λ r. ⌜ r ≡ columns [] ⌝ }
+{
+    let z = [0u16; 512];
+    Columns {
+        src: z,
+        dst: z,
+        due: z,
+    }
+}
+
+// A count of rows, cut down to what a table may hold.
+fn at_most_512(n: usize) -> usize
+    ensures { λ r. ⌜ r ≡ min n 512 ⌝ }
+{
+    if n < 512 { n } else { 512 }
+}
+
+// The first 512 rows of a lent table, by columns.
+pub fn load(rows: &[Row]) -> Columns
+    ensures { λ r. ⌜ r ≡ columns (now (rows .entry)) ⌝ }
+{
+    let last = at_most_512(rows.len());
+    let mut t = blank();
+    let mut i = 0usize;
+    while i < last {
+        let r = row_at(rows, i);
+        t.src[i] = r.src;
+        t.dst[i] = r.dst;
+        t.due[i] = r.due;
+        i += 1;
+    }
+    t
+}
+
+// Writes the first `count` rows of the columns to the front of a lent table, and leaves the rest of it.
+pub fn store_rows(rows: &mut [Row], columns: Columns, count: usize)
+    requires { ⌜ (count ≤ length (now rows)) × (count ≤ 512) ⌝ }
+    ensures { λ _. ⌜ now (rows .exit) ≡ listed count columns ++ drop count (now (rows .entry)) ⌝ }
+{
+    let mut i = 0usize;
+    while i < count {
+        let r = Row {
+            src: columns.src[i],
+            dst: columns.dst[i],
+            due: columns.due[i],
+        };
+        rows[i] = r;
+        i += 1;
+    }
 }

@@ -1,0 +1,34 @@
+-- A list that is filled from the front by a rule, one store a turn: after i turns it is `build i f ++ drop i d`.
+--     filled-none, filled-more, filled-all      at the start; one store more; at the end
+--     filled-long                               it keeps its length
+-- Assumes nothing.
+use mathlib.Core.Path.{_≡_, refl, _∙_, ap, sym}
+use Prim.Native.Nat.{ℕ, zero, suc, _+_, _≤_, _<_}
+use native.Mathlib.Nat.{not-suc-le-zero}
+use native.Mathlib.Numerals.{add-one}
+use native.Mathlib.Omega.{arith}
+use mathlib.Core.List.{List, [], _∷_, _++_, append-nil}
+use lib.ListN.{length, set, drop, length-append, length-drop, drop-of-length-le}
+use Rattle.lists.specs.Lists.{build}
+use Rattle.lists.proofs.Build.{length-build}
+
+module _ {ℓ} {A : Type ℓ} where
+  abbrev pub filled : (ℕ → A) → List A → ℕ → List A
+  filled f d i = build i f ++ drop i d
+
+  pub filled-none : (f : ℕ → A) (d : List A) → d ≡ filled f d 0
+  filled-none f d = refl
+
+  filled-suc : (f : ℕ → A) (d : List A) (i : ℕ) → i < length d → set (filled f d i) i (f i) ≡ filled f d (suc i)
+  filled-suc f [] i h = absurd (not-suc-le-zero h)
+  filled-suc f (x ∷ d) zero h = refl
+  filled-suc f (x ∷ d) (suc i) h = ap {B = List A} (λ l. f 0 ∷ l) (filled-suc (λ j. f (suc j)) d i (omega arith))
+
+  pub filled-more : (f : ℕ → A) (d : List A) (i : ℕ) → i < length d → set (filled f d i) i (f i) ≡ filled f d (i + 1)
+  filled-more f d i h = rw add-one (filled-suc f d i h)
+
+  pub filled-long : (f : ℕ → A) (d : List A) (i : ℕ) → i ≤ length d → length (filled f d i) ≡ length d
+  filled-long f d i h = length-append (build i f) (drop i d) ∙ omega (arith, length-build i f, length-drop i d)
+
+  pub filled-all : (f : ℕ → A) (d : List A) → filled f d (length d) ≡ build (length d) f
+  filled-all f d = rw (drop-of-length-le d {i = length d} (omega arith), append-nil)

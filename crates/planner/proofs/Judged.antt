@@ -1,0 +1,69 @@
+-- From the judgement of a table to the planner's outcome.
+--     judge-nodes, judge-many, judge-each      what judging comes to: by the nodes, by the number of rows, by the rows
+--     turned-away                              a refusal before 7: the areas are left as they were
+--     let-through                              a well-formed table
+-- Assumes nothing.
+use mathlib.Core.Path.{_≡_, refl, _∙_, ap, sym}
+use Prim.Native.Nat.{ℕ, _≤_, _<_}
+use native.Mathlib.Omega.{arith}
+use mathlib.Core.Logic.{_⊎_, inl, inr}
+use mathlib.Core.Bool.{or-true}
+use mathlib.Core.List.{List}
+use borrow.Author.Tests.{lt-ltb, le-ltb, ne-eqb}
+use lib.Dec.{ltb}
+use lib.ListN.{length, getD, take}
+use lib.Seq.{getD-take, length-take-le}
+use Rattle.lists.specs.Lists.{build}
+use Rattle.lists.proofs.Build.{build-ext}
+use Rattle.table.specs.declared.Row.{Row}
+use Rattle.table.specs.declared.Columns.{Columns}
+use Rattle.table.specs.declared.Refusal.{Refusal}
+use Rattle.table.specs.declared.Verdict.{Verdict}
+use Rattle.table.specs.declared.Verdict.the-variants as verdict
+use Rattle.table.specs.Table.{judge, judgeRows, refuse, listed, rowsOf}
+use Rattle.planner.specs.declared.Answer.{Answer}
+use Rattle.planner.specs.declared.Answer.the-variants.{Refused}
+use Rattle.planner.specs.Planner.{Planned, theAnswer, answerToRows, afterVerdict, areaAfter}
+use Rattle.planner.specs.Steps.{GoodPlanned, Tabled}
+
+module _ (n : ℕ) (rows : List Row) where
+  pub judge-few : n < 2 → judge n rows ≡ verdict.Refused (refuse 1 0 0)
+  unfolding judge
+  judge-few h = rw (lt-ltb n 2 h)
+
+  pub judge-wide : 32 < n → judge n rows ≡ verdict.Refused (refuse 1 0 0)
+  unfolding judge
+  judge-wide h = rw (lt-ltb 32 n h, or-true)
+
+  pub judge-many : 2 ≤ n → n ≤ 32 → 512 < length rows → judge n rows ≡ verdict.Refused (refuse 2 0 0)
+  unfolding judge
+  judge-many l m h = rw (le-ltb n 2 l, le-ltb 32 n m, lt-ltb 512 (length rows) h)
+
+  pub judge-each : 2 ≤ n → n ≤ 32 → length rows ≤ 512 → judge n rows ≡ judgeRows n rows 0
+  unfolding judge
+  judge-each l m h = rw (le-ltb n 2 l, le-ltb 32 n m, le-ltb 512 (length rows) h)
+
+  module _ (plan arrivals : List ℕ) where
+    pub turned-away : (r : Refusal) → judge n rows ≡ verdict.Refused r → r .number < 7 → (answer : Answer) → answer ≡ Refused r → Planned n rows plan arrivals answer plan arrivals
+    unfolding theAnswer afterVerdict areaAfter
+    turned-away r e early answer is =
+        rw is (record { answers = rw e; fills-plan = rw (ne-eqb (r .number) 9 (omega arith)); fills-arrivals = rw (ne-eqb (r .number) 9 (omega arith)) })
+
+    pub let-through : judge n rows ≡ verdict.Good → (answer : Answer) (plan′ arrivals′ : List ℕ) → GoodPlanned n rows plan arrivals answer plan′ arrivals′ → Planned n rows plan arrivals answer plan′ arrivals′
+    unfolding theAnswer afterVerdict
+    let-through e answer plan′ arrivals′ p =
+        record { answers = p .answers ∙ rw e; fills-plan = p .fills-plan; fills-arrivals = p .fills-arrivals }
+
+-- the rows of the columns' fronts
+pub listed-fronts : (count : ℕ) (c : Columns) → count ≤ length (c .src) → listed count c ≡ rowsOf (take count (c .src)) (take count (c .dst)) (take count (c .due))
+unfolding listed rowsOf
+listed-fronts count c h =
+    rw (length-take-le count (c .src) h) (build-ext count _ _ (λ i l. rw (getD-take count (c .src) i 0 l, getD-take count (c .dst) i 0 l, getD-take count (c .due) i 0 l)))
+
+pub fronts-tabled : (n count : ℕ) (c : Columns) → 2 ≤ n → n ≤ 32 → count ≤ 512 → length (c .src) ≡ 512 → length (c .dst) ≡ 512 → length (c .due) ≡ 512
+    → Tabled n (take count (c .src)) (take count (c .dst)) (take count (c .due))
+fronts-tabled n count c l m h e f g =
+    let s : length (take count (c .src)) ≡ count = length-take-le count (c .src) (omega arith) in
+    let d : length (take count (c .dst)) ≡ count = length-take-le count (c .dst) (omega arith) in
+    let u : length (take count (c .due)) ≡ count = length-take-le count (c .due) (omega arith) in
+    record { least = l; most = m; same = record { few = omega arith; dst-each = d ∙ sym s; due-each = u ∙ sym s } }

@@ -1,0 +1,4 @@
+pub mod Loaded
+mod Answering
+mod Good
+mod Judged

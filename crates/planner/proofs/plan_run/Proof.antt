@@ -1,0 +1,65 @@
+-- `planner::plan_run` meets its contract: what the run came to is what is answered.
+-- Assumes nothing.
+use native.Mathlib.Omega.{arith}
+use Rattle.planner.proofs.Answering.{run-accepted, run-refused}
+use borrow.Author.Needs.{needs}
+use Rattle.planner.proofs.plan_run.Statement.{statement}
+use Rattle.planner.proofs.plan_run.Tie as tie
+use Rattle.planner.proofs.plan_run.Reads as reads
+use Rattle.planner.proofs.plan_run.Lts as lts
+use Rattle.lists.proofs.sum.Reads as sum-reads
+use Rattle.planner.proofs.sum_up.Reads as sum-up-reads
+use Rattle.slack.proofs.run.Reads as run-reads
+
+sum-requires : tie.Need-sum-requires
+sum-requires c κs = search needs
+
+cast-entries : tie.Need-cast-entries
+cast-entries c = search needs
+
+run-requires : tie.Need-run-requires
+run-requires c κs = search needs
+
+sum-up-requires : tie.Need-sum-up-requires
+sum-up-requires c κs = search needs
+
+same-length : tie.Need-same-length
+same-length c = search needs
+
+same-length-2 : tie.Need-same-length-2
+same-length-2 c = search needs
+
+same-length-3 : tie.Need-same-length-3
+same-length-3 c = search needs
+
+returns : tie.Need-returns
+returns c = run-accepted (c .before .before .before .before .before .before .before .before .before .before .before .before .before .before .before .before .before .before .before .before .before .pre) (c .before .before .before .before .before .before .before .before .before .before .run .ensures) (omega arith) _ (c .before .before .before .before .before .before .before .before .before .before .before .before .before .before .sum .ensures) _ (c .sum-up .ensures)
+
+same-length-4 : tie.Need-same-length-4
+same-length-4 c = search needs
+
+same-length-5 : tie.Need-same-length-5
+same-length-5 c = search needs
+
+same-length-6 : tie.Need-same-length-6
+same-length-6 c = search needs
+
+returns-2 : tie.Need-returns-2
+returns-2 c = run-refused (c .before .before .before .before .before .before .before .before .before .before .before .before .before .before .before .before .before .before .before .before .pre) (c .before .before .before .before .before .before .before .before .before .run .ensures) (omega arith)
+
+pub plan-run-spec : {M : Type 1} → statement M
+plan-run-spec =
+    tie.close
+    (tie.spec
+    sum-requires
+    cast-entries
+    run-requires
+    sum-up-requires
+    same-length
+    same-length-2
+    same-length-3
+    returns
+    same-length-4
+    same-length-5
+    same-length-6
+    returns-2)

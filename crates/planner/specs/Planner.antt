@@ -1,0 +1,91 @@
+-- What the planner answers, and what it leaves in the lent areas, in the words and order of document 01.
+use Prim.Native.Nat.{ℕ, _*_, _≤_}
+use mathlib.Core.Path.{_≡_}
+use mathlib.Core.Bool.{Bool, cond}
+use mathlib.Core.List.{List, _++_}
+use lib.Dec.{eqb, ltb}
+use lib.IntN.{pos}
+use lib.Ieee.{Float, binary64, div, ofInt, ofBits}
+use lib.ListN.{length, drop, replicate}
+use Rattle.lists.specs.Lists.{total, largest}
+use Rattle.table.specs.declared.Row.{Row}
+use Rattle.table.specs.declared.Verdict.{Verdict}
+use Rattle.table.specs.declared.Verdict.the-variants as verdict
+use Rattle.table.specs.Table.{judge, WellFormed, refuse, destinations, dues, distances, lastDue}
+use Rattle.slack.specs.declared.Stop.{Stop}
+use Rattle.slack.specs.Slack.{Traffic, traffic, stopOf, planOf, arrivalsOf}
+use Rattle.optimal.specs.Schedule.{Schedule}
+use Rattle.planner.specs.declared.Summary.{Summary}
+use Rattle.planner.specs.declared.Answer.{Answer}
+use Rattle.planner.specs.declared.Answer.the-variants.{Accepted, Refused}
+
+-- The traffic of a table: its nodes, and its rows' destinations and due slots.
+abbrev pub trafficOf : ℕ → List Row → Traffic
+trafficOf n rows = traffic n (destinations rows) (dues rows)
+
+-- The entries of a plan: N for each slot below the largest due slot.
+abbrev pub planRoom : ℕ → List Row → ℕ
+planRoom n rows = n * lastDue rows
+
+-- Where the rule's run of a table ends.
+unfoldable pub ending : ℕ → List Row → Stop
+ending n rows = stopOf (trafficOf n rows) (distances n rows) (lastDue rows)
+
+-- The plan of a table, link by link and slot by slot.
+unfoldable pub thePlan : ℕ → List Row → List ℕ
+thePlan n rows = planOf (trafficOf n rows) (distances n rows) (lastDue rows)
+
+-- Each row's delivery instant.
+unfoldable pub theArrivals : ℕ → List Row → List ℕ
+theArrivals n rows = arrivalsOf (trafficOf n rows) (distances n rows) (lastDue rows)
+
+-- One division of whole numbers that are exact as floats, rounded once; 0 where there is nothing to divide by.
+unfoldable pub quotient : ℕ → ℕ → Float
+quotient a b = cond (eqb b 0) (ofBits binary64 0) (div binary64 (ofInt binary64 (pos a)) (ofInt binary64 (pos b)))
+
+-- A summary: last delivery instant, sends, sum of the delivery instants, mean delay and used share.
+unfoldable pub summaryOf : (rows sends entries : ℕ) → (arrivals : List ℕ) → Summary
+summaryOf rows sends entries arrivals =
+    record {
+      last = record { 0 = largest arrivals };
+      sends = sends;
+      sum = total arrivals;
+      mean = quotient (total arrivals) rows;
+      share = quotient sends entries;
+    }
+
+-- The summary of a table: its sends are the sum of all distances, and its entries those of its plan.
+unfoldable pub theSummary : ℕ → List Row → Summary
+theSummary n rows = summaryOf (length rows) (total (distances n rows)) (planRoom n rows) (theArrivals n rows)
+
+-- The answer to a well-formed table: 7 and 8 for the room lent, then 9 for a late row, else acceptance.
+unfoldable pub answerToRows : ℕ → List Row → (plan-lent arrivals-lent : ℕ) → Answer
+answerToRows n rows plan-lent arrivals-lent =
+    cond (ltb plan-lent (planRoom n rows)) (Refused (refuse 7 0 0))
+    (cond (ltb arrivals-lent (length rows)) (Refused (refuse 8 0 0))
+    (cond (eqb (ending n rows .row) 0) (Accepted (theSummary n rows)) (Refused (refuse 9 (ending n rows .row) (ending n rows .slot .0)))))
+
+-- The answer: what judging the table came to, where it is no good table, and else what follows.
+unfoldable pub afterVerdict : Verdict → Answer → Answer
+afterVerdict verdict.Good next = next
+afterVerdict (verdict.Refused r) next = Refused r
+
+unfoldable pub theAnswer : ℕ → List Row → (plan-lent arrivals-lent : ℕ) → Answer
+theAnswer n rows plan-lent arrivals-lent = afterVerdict (judge n rows) (answerToRows n rows plan-lent arrivals-lent)
+
+-- Document 01's number for an answer: 0 for an acceptance, and a refusal's own.
+unfoldable pub numberOf : Answer → ℕ
+numberOf (Accepted s) = 0
+numberOf (Refused r) = r .number
+
+-- What an area holds after an answer: the list given where the table is accepted, as many zeros where it is late, and in front of what was there behind them.
+unfoldable pub areaAfter : Answer → (given before : List ℕ) → List ℕ
+areaAfter (Accepted s) given before = given ++ drop (length given) before
+areaAfter (Refused r) given before =
+    cond (eqb (r .number) 9) (replicate (length given) 0 ++ drop (length given) before) before
+
+-- The full outcome of planning: the answer, and every entry of both lent areas.
+pub record Planned (n : ℕ) (rows : List Row) (plan arrivals : List ℕ) (answer : Answer) (plan′ arrivals′ : List ℕ) : Type 0 where
+  pub answers : answer ≡ theAnswer n rows (length plan) (length arrivals)
+  pub fills-plan : plan′ ≡ areaAfter answer (thePlan n rows) plan
+  pub fills-arrivals : arrivals′ ≡ areaAfter answer (theArrivals n rows) arrivals

@@ -1,0 +1,197 @@
+ghost use mathlib.Core.Path.{_≡_};
+ghost use lib.ListN.{length, replicate};
+ghost use Rattle.table.specs.Table.{judgeRows, listed, refuse, rowsOf};
+ghost use Prim.Native.Nat.{ℕ, _≤_};
+ghost use Rattle.slack.specs.Slack.{traffic};
+ghost use Rattle.planner.specs.Planner.{Planned, quotient, summaryOf};
+ghost use Rattle.planner.specs.Steps.{Runnable, RunPlanned, Tabled, GoodPlanned};
+use lists::greatest;
+use lists::sum;
+use ring::Slot;
+use slack::run;
+use table::Columns;
+use table::Refusal;
+use table::Row;
+use table::Verdict;
+use table::judge_rows;
+use table::load;
+use table::measure;
+
+// What an accepted table comes to.
+pub struct Summary {
+    pub last: Slot,
+    pub sends: u32,
+    pub sum: u32,
+    pub mean: f64,
+    pub share: f64,
+}
+
+// The planner's answer.
+pub enum Answer {
+    Accepted(Summary),
+    Refused(Refusal),
+}
+
+// One division of whole numbers, 0 where there is nothing to divide by.
+fn divide(a: u32, b: u32) -> f64
+    ensures { λ r. ⌜ r ≡ quotient a b ⌝ }
+{
+    if b == 0 {
+        return 0.0;
+    }
+    a as f64 / b as f64
+}
+
+// The figures of a run in which every row arrived.
+fn sum_up(sends: u32, entries: u32, arrivals: &[u16]) -> Summary
+    requires { ⌜ length (now arrivals) ≤ 512 ⌝ }
+    ensures { λ r. ⌜ r ≡ summaryOf (length (now (arrivals .entry))) sends entries (now (arrivals .entry)) ⌝ }
+{
+    let last = greatest(arrivals);
+    let sum = sum(arrivals);
+    let rows = arrivals.len() as u32;
+    Summary {
+        last: Slot(last),
+        sends,
+        sum,
+        mean: divide(sum, rows),
+        share: divide(sends, entries),
+    }
+}
+
+// Plans a run in areas of just its size, and answers with its figures or with the late row.
+fn plan_run(
+    nodes: u16,
+    dst: &[u16],
+    due: &[u16],
+    left: &mut [u16],
+    plan: &mut [u16],
+    arrivals: &mut [u16],
+) -> Answer
+    requires { ⌜ Runnable (traffic nodes (now dst) (now due)) (now left) (now plan) (now arrivals) ⌝ }
+    ensures { λ r. ⌜ RunPlanned (traffic nodes (now (dst .entry)) (now (due .entry))) (now (left .entry)) (length (now (plan .entry))) r (now (plan .exit)) (now (arrivals .exit)) ⌝ }
+{
+    let sends = sum(left);
+    let entries = plan.len() as u32;
+    let stop = run(nodes, dst, due, left, plan, arrivals);
+    if stop.row == 0 {
+        Answer::Accepted(sum_up(sends, entries, arrivals))
+    } else {
+        let slot = stop.slot;
+        Answer::Refused(Refusal {
+            number: 9,
+            row: stop.row,
+            slot,
+        })
+    }
+}
+
+// A refusal that names neither row nor slot.
+fn refusal(number: u16) -> Answer
+    ensures { λ r. ⌜ r ≡ Answer.Refused (refuse number 0 0) ⌝ }
+{
+    Answer::Refused(Refusal {
+        number,
+        row: 0,
+        slot: Slot(0),
+    })
+}
+
+// A place for each row that a table may have.
+fn places() -> [u16; 512]
+    ensures { λ r. ⌜ r ≡ replicate {A = ℕ} 512 0 ⌝ }
+{
+    [0u16; 512]
+}
+
+// Plans a well-formed table: refuses areas that are too short, and else plans its run in their fronts.
+fn plan_good(
+    nodes: u16,
+    src: &[u16],
+    dst: &[u16],
+    due: &[u16],
+    plan: &mut [u16],
+    arrivals: &mut [u16],
+) -> Answer
+    requires { ⌜ Tabled nodes (now src) (now dst) (now due) × (judgeRows nodes (rowsOf (now src) (now dst) (now due)) 0 ≡ Verdict.Good) ⌝ }
+    ensures { λ r. ⌜ GoodPlanned nodes (rowsOf (now (src .entry)) (now (dst .entry)) (now (due .entry))) (now (plan .entry)) (now (arrivals .entry)) r (now (plan .exit)) (now (arrivals .exit)) ⌝ }
+{
+    let rows = src.len();
+    let need = nodes as usize * greatest(due) as usize;
+    if plan.len() < need {
+        return refusal(7);
+    }
+    if arrivals.len() < rows {
+        return refusal(8);
+    }
+    let mut left = places();
+    measure(nodes, src, dst, &mut left[..rows]);
+    plan_run(
+        nodes,
+        dst,
+        due,
+        &mut left[..rows],
+        &mut plan[..need],
+        &mut arrivals[..rows],
+    )
+}
+
+// Plans the rows of three columns: refuses the first bad row, and else plans them.
+fn plan_rows(
+    nodes: u16,
+    src: &[u16],
+    dst: &[u16],
+    due: &[u16],
+    plan: &mut [u16],
+    arrivals: &mut [u16],
+) -> Answer
+    requires { ⌜ Tabled nodes (now src) (now dst) (now due) ⌝ }
+    ensures { λ r. ⌜ Planned nodes (rowsOf (now (src .entry)) (now (dst .entry)) (now (due .entry))) (now (plan .entry)) (now (arrivals .entry)) r (now (plan .exit)) (now (arrivals .exit)) ⌝ }
+{
+    let verdict = judge_rows(nodes, src, dst, due);
+    match verdict {
+        Verdict::Refused(r) => Answer::Refused(r),
+        Verdict::Good => plan_good(nodes, src, dst, due, plan, arrivals),
+    }
+}
+
+// Plans the first `rows` rows of the columns: the whole planner, on plain numbers.
+fn plan_columns(
+    nodes: u16,
+    rows: usize,
+    columns: Columns,
+    plan: &mut [u16],
+    arrivals: &mut [u16],
+) -> Answer
+    ensures { λ r. ⌜ Planned nodes (listed rows columns) (now (plan .entry)) (now (arrivals .entry)) r (now (plan .exit)) (now (arrivals .exit)) ⌝ }
+{
+    if nodes < 2 {
+        return refusal(1);
+    }
+    if 32 < nodes {
+        return refusal(1);
+    }
+    if 512 < rows {
+        return refusal(2);
+    }
+    let src = columns.src;
+    let dst = columns.dst;
+    let due = columns.due;
+    plan_rows(
+        nodes,
+        &src[..rows],
+        &dst[..rows],
+        &due[..rows],
+        plan,
+        arrivals,
+    )
+}
+
+// Plans a table: the lent plan says which row each link carries in each slot, the lent arrivals when each row is there.
+pub fn plan(nodes: u16, rows: &[Row], plan: &mut [u16], arrivals: &mut [u16]) -> Answer
+    ensures { λ r. ⌜ Planned nodes (now (rows .entry)) (now (plan .entry)) (now (arrivals .entry)) r (now (plan .exit)) (now (arrivals .exit)) ⌝ }
+{
+    let count = rows.len();
+    let columns = load(rows);
+    plan_columns(nodes, count, columns, plan, arrivals)
+}

@@ -1,0 +1,4 @@
+pub mod Element
+pub mod Held
+pub mod Judging
+pub mod Rows

@@ -1,0 +1,13 @@
+-- `table::blank` meets its contract: the columns of no rows are 512 zeros each.
+-- Assumes nothing.
+use mathlib.Core.Path.{refl}
+use Rattle.table.specs.Table.{columns, column, sources, destinations, dues}
+use Rattle.table.proofs.blank.Statement.{statement}
+use Rattle.table.proofs.blank.Tie as tie
+
+returns : tie.Need-returns
+unfolding columns column sources destinations dues
+returns c = refl
+
+pub blank-spec : {M : Type 1} → statement M
+blank-spec = tie.close (tie.spec returns)
