@@ -77,7 +77,7 @@ module _ (n : ℕ) (src dst due : List ℕ) (k : Tabled n src dst due) (good : j
   start-at : (i : ℕ) → i < length start → (i < length src) × (getD start i 0 ≡ distance n (getD src i 0) (getD dst i 0))
   start-at i h = let l : i < length src = omega (arith, start-long) in (l, getD-build (length src) _ i 0 l)
 
-  on-ring : OnRing (traffic n dst due) start
+  pub on-ring : OnRing (traffic n dst due) start
   on-ring =
       record {
         some-node = omega (arith, k .least);
@@ -87,7 +87,7 @@ module _ (n : ℕ) (src dst due : List ℕ) (k : Tabled n src dst due) (good : j
         left-inside = λ i h. rw (start-at i h .1) (within-turn n (getD src i 0) (getD dst i 0) (row i (start-at i h .0) .dst-inside));
       }
 
-  under-way : AllUnderWay start
+  pub under-way : AllUnderWay start
   under-way i h =
       let r = row i (start-at i h .0) in
       rw (start-at i h .1) (apart n (getD src i 0) (getD dst i 0) (r .src-inside) (r .dst-inside) (r .apart))
@@ -108,10 +108,10 @@ module _ (n : ℕ) (src dst due : List ℕ) (k : Tabled n src dst due) (good : j
       })
 
   -- the table's own words for the run
-  its-traffic : trafficOf n rows ≡ traffic n dst due
+  pub its-traffic : trafficOf n rows ≡ traffic n dst due
   its-traffic = rw (its-destinations src dst due (k .same), its-dues src dst due (k .same))
 
-  its-start : distances n rows ≡ start
+  pub its-start : distances n rows ≡ start
   its-start = its-distances src dst due (k .same) n
 
   its-last : lastDue rows ≡ last

@@ -6,10 +6,9 @@
 use mathlib.Core.Path.{_≡_, refl, _∙_, ap, sym}
 use Prim.Native.Nat.{ℕ, _≤_, _<_}
 use native.Mathlib.Omega.{arith}
-use mathlib.Core.Logic.{_⊎_, inl, inr}
-use mathlib.Core.Bool.{or-true}
+use mathlib.Core.Bool.{Bool, true, false, cond, _||_, or-true}
 use mathlib.Core.List.{List}
-use borrow.Author.Tests.{lt-ltb, le-ltb, ne-eqb}
+use borrow.Author.Tests.{lt-ltb, le-ltb, ltb-false, ne-eqb}
 use lib.Dec.{ltb}
 use lib.ListN.{length, getD, take}
 use lib.Seq.{getD-take, length-take-le}
@@ -20,7 +19,7 @@ use Rattle.table.specs.declared.Columns.{Columns}
 use Rattle.table.specs.declared.Refusal.{Refusal}
 use Rattle.table.specs.declared.Verdict.{Verdict}
 use Rattle.table.specs.declared.Verdict.the-variants as verdict
-use Rattle.table.specs.Table.{judge, judgeRows, refuse, listed, rowsOf}
+use Rattle.table.specs.Table.{judge, judgeRows, WellFormed, refuse, listed, rowsOf}
 use Rattle.planner.specs.declared.Answer.{Answer}
 use Rattle.planner.specs.declared.Answer.the-variants.{Refused}
 use Rattle.planner.specs.Planner.{Planned, theAnswer, answerToRows, afterVerdict, areaAfter}
@@ -67,3 +66,21 @@ fronts-tabled n count c l m h e f g =
     let d : length (take count (c .dst)) ≡ count = length-take-le count (c .dst) (omega arith) in
     let u : length (take count (c .due)) ≡ count = length-take-le count (c .due) (omega arith) in
     record { least = l; most = m; same = record { few = omega arith; dst-each = d ∙ sym s; due-each = u ∙ sym s } }
+
+-- What a well-formed table is known to be.
+pub record Sound (n : ℕ) (rows : List Row) : Type 0 where
+  pub least : 2 ≤ n
+  pub most : n ≤ 32
+  pub few : length rows ≤ 512
+  pub each : judgeRows n rows 0 ≡ verdict.Good
+
+pub sound : (n : ℕ) (rows : List Row) → WellFormed n rows → Sound n rows
+unfolding judge
+sound n rows e = go (ltb n 2) refl (ltb 32 n) refl (ltb 512 (length rows)) refl e
+  where
+    go : (a : Bool) → ltb n 2 ≡ a → (b : Bool) → ltb 32 n ≡ b → (c : Bool) → ltb 512 (length rows) ≡ c
+        → cond (a || b) (verdict.Refused (refuse 1 0 0)) (cond c (verdict.Refused (refuse 2 0 0)) (judgeRows n rows 0)) ≡ verdict.Good → Sound n rows
+    go true ha b hb c hc f = let never : _≡_ {A = ℕ} 0 1 = cc in absurd (omega arith)
+    go false ha true hb c hc f = let never : _≡_ {A = ℕ} 0 1 = cc in absurd (omega arith)
+    go false ha false hb true hc f = let never : _≡_ {A = ℕ} 0 1 = cc in absurd (omega arith)
+    go false ha false hb false hc f = record { least = ltb-false n 2 ha; most = ltb-false 32 n hb; few = ltb-false 512 (length rows) hc; each = f }

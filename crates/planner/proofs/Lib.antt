@@ -2,3 +2,5 @@ pub mod Loaded
 mod Answering
 mod Good
 mod Judged
+pub mod Promises
+mod Cases

@@ -71,7 +71,8 @@ afterVerdict verdict.Good next = next
 afterVerdict (verdict.Refused r) next = Refused r
 
 unfoldable pub theAnswer : ℕ → List Row → (plan-lent arrivals-lent : ℕ) → Answer
-theAnswer n rows plan-lent arrivals-lent = afterVerdict (judge n rows) (answerToRows n rows plan-lent arrivals-lent)
+theAnswer n rows plan-lent arrivals-lent =
+    let next = answerToRows n rows plan-lent arrivals-lent in afterVerdict (judge n rows) next
 
 -- Document 01's number for an answer: 0 for an acceptance, and a refusal's own.
 unfoldable pub numberOf : Answer → ℕ
@@ -89,3 +90,13 @@ pub record Planned (n : ℕ) (rows : List Row) (plan arrivals : List ℕ) (answe
   pub answers : answer ≡ theAnswer n rows (length plan) (length arrivals)
   pub fills-plan : plan′ ≡ areaAfter answer (thePlan n rows) plan
   pub fills-arrivals : arrivals′ ≡ areaAfter answer (theArrivals n rows) arrivals
+
+-- A legal schedule, by any rule, of N entries for each slot below the largest due slot, that brings every row of the table there in time.
+abbrev pub ScheduleOf : ℕ → List Row → List ℕ → Type 0
+ScheduleOf n rows = Schedule (trafficOf n rows) (distances n rows) (lastDue rows)
+
+-- A well-formed table with room for its plan and its arrivals: refusals 1 to 8 do not hold of it.
+pub record Plannable (n : ℕ) (rows : List Row) (plan arrivals : List ℕ) : Type 0 where
+  pub well-formed : WellFormed n rows
+  pub room-for-plan : planRoom n rows ≤ length plan
+  pub room-for-arrivals : length rows ≤ length arrivals

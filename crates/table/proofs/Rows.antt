@@ -18,7 +18,8 @@ use Rattle.lists.specs.Lists.{build}
 use Rattle.lists.proofs.Build.{length-build, build-ext, build-of}
 use Rattle.table.specs.declared.Row.{Row}
 use Rattle.table.specs.declared.Columns.{Columns}
-use Rattle.table.specs.Table.{none, column, columns, listed, sources, destinations, dues}
+use Rattle.table.specs.Table.{none, column, columns, listed, sources, destinations, dues, rowsOf}
+use Rattle.table.specs.Steps.{SameRows}
 
 -- ---- one column
 getD-zeros : (p j : ℕ) → getD {A = ℕ} (replicate p 0) j 0 ≡ zero
@@ -153,3 +154,17 @@ unfolding listed
 front-more c rows i l =
     ap (λ (rest : List Row). set (listed i c ++ rest) i (rowOf c i)) (drop-cons rows i none l)
     ∙ set-at (listed i c) (getD rows i none) (drop (suc i) rows) (rowOf c i) i (length-listed i c) ∙ sym (build-next i (rowOf c) (drop (suc i) rows))
+
+-- ---- the rows that columns of just their length hold
+pub rows-of-columns : (rows : List Row) → rowsOf (sources rows) (destinations rows) (dues rows) ≡ rows
+unfolding rowsOf sources destinations dues
+rows-of-columns rows =
+    rw (length-map (λ r. r .src) rows)
+    (build-ext (length rows) _ (λ i. getD rows i none) (λ i l. same-row (getD rows i none) (List·getD-map (λ r. r .src) rows i none) (List·getD-map (λ r. r .dst) rows i none) (List·getD-map (λ r. r .due) rows i none))
+    ∙ build-of (length rows) none rows refl)
+
+pub same-rows : (rows : List Row) → length rows ≤ 512 → SameRows (sources rows) (destinations rows) (dues rows)
+unfolding sources destinations dues
+same-rows rows few =
+    let s = length-map (λ r. r .src) rows in
+    record { few = omega arith; dst-each = length-map (λ r. r .dst) rows ∙ sym s; due-each = length-map (λ r. r .due) rows ∙ sym s }

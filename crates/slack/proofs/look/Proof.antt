@@ -105,7 +105,7 @@ unfolding place
 shared-slice-read-t30 c =
     let k = c .before .before .before .before .before .before .before .before .before .before .before .before .before .pre in
     let p = c .before .before .before .before .before .node-at .result .0 in
-    rival-is k p (c .before .before .before .before .before .node-at .ensures) (c .before .before .before .before .before .before .before .if1 .left) (c .before .before .if2 .left)
+    omega (arith, rival-is k p (c .before .before .before .before .before .node-at .ensures) (c .before .before .before .before .before .before .before .if1 .left) (c .before .before .if2 .left))
 
 slack-requires : tie.Need-slack-requires
 slack-requires c κs = search needs
