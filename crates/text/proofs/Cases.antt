@@ -1,0 +1,95 @@
+-- The definitions at work: case B of document 01, and texts with one thing wrong each.
+-- Assumes nothing.
+use mathlib.Core.Path.{_≡_, refl}
+use mathlib.Core.Bool.{Bool, true, false, cond, _&&_}
+use mathlib.Core.List.{List, [], _∷_, map, _++_}
+use Prim.Native.Nat.{ℕ}
+use Rattle.table.specs.Table.{refuse}
+use Rattle.table.specs.declared.Row.{Row}
+use Rattle.text.specs.declared.Reading.{Reading}
+use Rattle.text.specs.declared.Reading.the-variants.{Read, Refused}
+use Rattle.text.specs.Text.{width, lastDigits, numeral, line, rowText, rowsText, textOf, starts, digitsAt, extended, lineValue, lineGood, lineRest, wrongInRow, rowAt, pastRow, wrongLine, rowsAt, nodesIn, rowsIn, bodyOf, readingOfRows, readingOfBody, readingOf, rowsRead}
+
+-- The rows of case B, and its text as document 01 prints it.
+abbrev pub case-b : List Row
+case-b = record { src = 0; dst = 1; due = 2 } ∷ record { src = 0; dst = 3; due = 3 } ∷ []
+
+abbrev pub case-b-text : List ℕ
+case-b-text =
+    110 ∷ 111 ∷ 100 ∷ 101 ∷ 115 ∷ 61 ∷ 52 ∷ 10 ∷
+    114 ∷ 111 ∷ 119 ∷ 115 ∷ 61 ∷ 50 ∷ 10 ∷
+    115 ∷ 114 ∷ 99 ∷ 61 ∷ 48 ∷ 10 ∷
+    100 ∷ 115 ∷ 116 ∷ 61 ∷ 49 ∷ 10 ∷
+    100 ∷ 117 ∷ 101 ∷ 61 ∷ 50 ∷ 10 ∷
+    115 ∷ 114 ∷ 99 ∷ 61 ∷ 48 ∷ 10 ∷
+    100 ∷ 115 ∷ 116 ∷ 61 ∷ 51 ∷ 10 ∷
+    100 ∷ 117 ∷ 101 ∷ 61 ∷ 51 ∷ 10 ∷ []
+
+pub case-b-written : textOf 4 case-b ≡ case-b-text
+unfolding width lastDigits numeral line rowText rowsText textOf
+case-b-written = refl
+
+pub case-b-read : readingOf case-b-text 2 ≡ Read (record { nodes = 4; rows = 2 })
+unfolding width lastDigits numeral line starts digitsAt extended lineValue lineGood lineRest wrongInRow rowAt pastRow wrongLine rowsAt nodesIn rowsIn bodyOf readingOfRows readingOfBody readingOf
+case-b-read = refl
+
+pub case-b-rows : rowsRead case-b-text 2 ≡ case-b
+unfolding width lastDigits numeral line starts digitsAt extended lineValue lineGood lineRest wrongInRow rowAt pastRow wrongLine rowsAt nodesIn rowsIn bodyOf readingOfRows readingOfBody readingOf rowsRead
+case-b-rows = refl
+
+-- A text, and the refusal that it gets where 2 records are lent.
+pub record Wrong : Type 0 where
+  pub text : List ℕ
+  pub number : ℕ
+  pub place : ℕ
+
+-- One case a line.
+abbrev pub wrong-texts : List Wrong
+wrong-texts =
+    -- the empty text
+    record { text = []; number = 20; place = 1 } ∷
+    -- one above the greatest value
+    record { text = 110 ∷ 111 ∷ 100 ∷ 101 ∷ 115 ∷ 61 ∷ 54 ∷ 53 ∷ 53 ∷ 51 ∷ 54 ∷ 10 ∷ 114 ∷ 111 ∷ 119 ∷ 115 ∷ 61 ∷ 48 ∷ 10 ∷ []; number = 20; place = 1 } ∷
+    -- two zeros
+    record { text = 110 ∷ 111 ∷ 100 ∷ 101 ∷ 115 ∷ 61 ∷ 48 ∷ 48 ∷ 10 ∷ 114 ∷ 111 ∷ 119 ∷ 115 ∷ 61 ∷ 48 ∷ 10 ∷ []; number = 20; place = 1 } ∷
+    -- a leading zero
+    record { text = 110 ∷ 111 ∷ 100 ∷ 101 ∷ 115 ∷ 61 ∷ 48 ∷ 49 ∷ 10 ∷ 114 ∷ 111 ∷ 119 ∷ 115 ∷ 61 ∷ 48 ∷ 10 ∷ []; number = 20; place = 1 } ∷
+    -- no digit
+    record { text = 110 ∷ 111 ∷ 100 ∷ 101 ∷ 115 ∷ 61 ∷ 10 ∷ 114 ∷ 111 ∷ 119 ∷ 115 ∷ 61 ∷ 48 ∷ 10 ∷ []; number = 20; place = 1 } ∷
+    -- a carriage return
+    record { text = 110 ∷ 111 ∷ 100 ∷ 101 ∷ 115 ∷ 61 ∷ 52 ∷ 13 ∷ 10 ∷ 114 ∷ 111 ∷ 119 ∷ 115 ∷ 61 ∷ 48 ∷ 10 ∷ []; number = 20; place = 1 } ∷
+    -- a sign
+    record { text = 110 ∷ 111 ∷ 100 ∷ 101 ∷ 115 ∷ 61 ∷ 43 ∷ 52 ∷ 10 ∷ 114 ∷ 111 ∷ 119 ∷ 115 ∷ 61 ∷ 48 ∷ 10 ∷ []; number = 20; place = 1 } ∷
+    -- no line feed
+    record { text = 110 ∷ 111 ∷ 100 ∷ 101 ∷ 115 ∷ 61 ∷ 52 ∷ []; number = 20; place = 1 } ∷
+    -- line 2 missing
+    record { text = 110 ∷ 111 ∷ 100 ∷ 101 ∷ 115 ∷ 61 ∷ 52 ∷ 10 ∷ []; number = 20; place = 2 } ∷
+    -- a leading zero in line 2
+    record { text = 110 ∷ 111 ∷ 100 ∷ 101 ∷ 115 ∷ 61 ∷ 52 ∷ 10 ∷ 114 ∷ 111 ∷ 119 ∷ 115 ∷ 61 ∷ 48 ∷ 53 ∷ 49 ∷ 51 ∷ 10 ∷ []; number = 20; place = 2 } ∷
+    -- one above the greatest value in line 2
+    record { text = 110 ∷ 111 ∷ 100 ∷ 101 ∷ 115 ∷ 61 ∷ 52 ∷ 10 ∷ 114 ∷ 111 ∷ 119 ∷ 115 ∷ 61 ∷ 54 ∷ 53 ∷ 53 ∷ 51 ∷ 54 ∷ 10 ∷ []; number = 20; place = 2 } ∷
+    -- line 2 without its line feed
+    record { text = 110 ∷ 111 ∷ 100 ∷ 101 ∷ 115 ∷ 61 ∷ 52 ∷ 10 ∷ 114 ∷ 111 ∷ 119 ∷ 115 ∷ 61 ∷ 53 ∷ 49 ∷ 51 ∷ []; number = 20; place = 2 } ∷
+    -- too many rows
+    record { text = 110 ∷ 111 ∷ 100 ∷ 101 ∷ 115 ∷ 61 ∷ 51 ∷ 51 ∷ 10 ∷ 114 ∷ 111 ∷ 119 ∷ 115 ∷ 61 ∷ 53 ∷ 49 ∷ 51 ∷ 10 ∷ []; number = 2; place = 0 } ∷
+    -- more rows than records lent
+    record { text = 110 ∷ 111 ∷ 100 ∷ 101 ∷ 115 ∷ 61 ∷ 51 ∷ 51 ∷ 10 ∷ 114 ∷ 111 ∷ 119 ∷ 115 ∷ 61 ∷ 53 ∷ 49 ∷ 50 ∷ 10 ∷ []; number = 21; place = 0 } ∷
+    -- the last line feed missing
+    record { text = 110 ∷ 111 ∷ 100 ∷ 101 ∷ 115 ∷ 61 ∷ 52 ∷ 10 ∷ 114 ∷ 111 ∷ 119 ∷ 115 ∷ 61 ∷ 49 ∷ 10 ∷ 115 ∷ 114 ∷ 99 ∷ 61 ∷ 48 ∷ 10 ∷ 100 ∷ 115 ∷ 116 ∷ 61 ∷ 49 ∷ 10 ∷ 100 ∷ 117 ∷ 101 ∷ 61 ∷ 50 ∷ []; number = 20; place = 5 } ∷
+    -- the last line missing
+    record { text = 110 ∷ 111 ∷ 100 ∷ 101 ∷ 115 ∷ 61 ∷ 52 ∷ 10 ∷ 114 ∷ 111 ∷ 119 ∷ 115 ∷ 61 ∷ 49 ∷ 10 ∷ 115 ∷ 114 ∷ 99 ∷ 61 ∷ 48 ∷ 10 ∷ 100 ∷ 115 ∷ 116 ∷ 61 ∷ 49 ∷ 10 ∷ []; number = 20; place = 5 } ∷
+    -- two lines in the wrong order
+    record { text = 110 ∷ 111 ∷ 100 ∷ 101 ∷ 115 ∷ 61 ∷ 52 ∷ 10 ∷ 114 ∷ 111 ∷ 119 ∷ 115 ∷ 61 ∷ 49 ∷ 10 ∷ 115 ∷ 114 ∷ 99 ∷ 61 ∷ 48 ∷ 10 ∷ 100 ∷ 117 ∷ 101 ∷ 61 ∷ 49 ∷ 10 ∷ 100 ∷ 115 ∷ 116 ∷ 61 ∷ 50 ∷ 10 ∷ []; number = 20; place = 4 } ∷
+    -- no number
+    record { text = 110 ∷ 111 ∷ 100 ∷ 101 ∷ 115 ∷ 61 ∷ 52 ∷ 10 ∷ 114 ∷ 111 ∷ 119 ∷ 115 ∷ 61 ∷ 49 ∷ 10 ∷ 115 ∷ 114 ∷ 99 ∷ 61 ∷ 120 ∷ 10 ∷ 100 ∷ 115 ∷ 116 ∷ 61 ∷ 49 ∷ 10 ∷ 100 ∷ 117 ∷ 101 ∷ 61 ∷ 50 ∷ 10 ∷ []; number = 20; place = 3 } ∷
+    -- one byte behind the last line
+    record { text = 110 ∷ 111 ∷ 100 ∷ 101 ∷ 115 ∷ 61 ∷ 52 ∷ 10 ∷ 114 ∷ 111 ∷ 119 ∷ 115 ∷ 61 ∷ 49 ∷ 10 ∷ 115 ∷ 114 ∷ 99 ∷ 61 ∷ 48 ∷ 10 ∷ 100 ∷ 115 ∷ 116 ∷ 61 ∷ 49 ∷ 10 ∷ 100 ∷ 117 ∷ 101 ∷ 61 ∷ 50 ∷ 10 ∷ 10 ∷ []; number = 20; place = 6 } ∷
+    -- a byte behind an empty table
+    record { text = 110 ∷ 111 ∷ 100 ∷ 101 ∷ 115 ∷ 61 ∷ 52 ∷ 10 ∷ 114 ∷ 111 ∷ 119 ∷ 115 ∷ 61 ∷ 48 ∷ 10 ∷ 0 ∷ []; number = 20; place = 3 } ∷
+    -- six digits
+    record { text = 110 ∷ 111 ∷ 100 ∷ 101 ∷ 115 ∷ 61 ∷ 52 ∷ 10 ∷ 114 ∷ 111 ∷ 119 ∷ 115 ∷ 61 ∷ 49 ∷ 10 ∷ 115 ∷ 114 ∷ 99 ∷ 61 ∷ 48 ∷ 10 ∷ 100 ∷ 115 ∷ 116 ∷ 61 ∷ 49 ∷ 10 ∷ 100 ∷ 117 ∷ 101 ∷ 61 ∷ 49 ∷ 50 ∷ 51 ∷ 52 ∷ 53 ∷ 54 ∷ 10 ∷ []; number = 20; place = 5 } ∷
+    []
+
+pub wrong-texts-refused : map (λ (w : Wrong). readingOf (w .text) 2) wrong-texts ≡ map (λ (w : Wrong). Refused (refuse (w .number) (w .place) 0)) wrong-texts
+unfolding width lastDigits numeral line starts digitsAt extended lineValue lineGood lineRest wrongInRow rowAt pastRow wrongLine rowsAt nodesIn rowsIn bodyOf readingOfRows readingOfBody readingOf
+wrong-texts-refused = refl
