@@ -1,0 +1,6 @@
+#!/usr/bin/env bash
+# Builds the archive, then times its planner beside a Rust planner that scans all rows in each slot.
+set -euo pipefail
+cd "$(dirname "$0")/.."
+rt staticlib panel
+cargo run --quiet --release --offline --locked --manifest-path bench/Cargo.toml

@@ -1,0 +1,131 @@
+//! Times the archive's planner beside Rust planners that scan all rows in each slot, on the same random full tables.
+
+mod scan;
+
+use panel_tests::panel::{self, Answer, Row};
+use panel_tests::random::Random;
+use std::hint::black_box;
+use std::time::Instant;
+
+const NODES: u16 = 32;
+const ROWS: usize = 512;
+const TABLES: usize = 100;
+const ROUNDS: usize = 21;
+const ENTRIES: usize = NODES as usize * 1024;
+
+/// Scans all rows in each slot, with branches.
+fn scan(nodes: u16, rows: &[Row], plan: &mut [u16], arrivals: &mut [u16]) -> Answer {
+    scan::plan(scan::with_branches, nodes, rows, plan, arrivals)
+}
+
+/// Scans all rows in each slot, with none.
+fn scan_min(nodes: u16, rows: &[Row], plan: &mut [u16], arrivals: &mut [u16]) -> Answer {
+    scan::plan(scan::with_minimum, nodes, rows, plan, arrivals)
+}
+
+type Planner = fn(u16, &[Row], &mut [u16], &mut [u16]) -> Answer;
+
+/// Areas that were not cleared: each planner writes all that it owes.
+struct Areas {
+    plan: Vec<u16>,
+    arrivals: Vec<u16>,
+}
+
+const PLANNERS: [Planner; 3] = [panel::plan, scan, scan_min];
+
+impl Areas {
+    fn dirty() -> Areas {
+        Areas {
+            plan: vec![0xabcd; ENTRIES],
+            arrivals: vec![0xabcd; ROWS],
+        }
+    }
+}
+
+/// A full table with due slots from `low` to `high` past each row's distance, and at most 1,024.
+fn table(random: &mut Random, low: usize, high: usize) -> Vec<Row> {
+    let row = |_| {
+        let (src, distance) = (random.node(NODES), random.within(1, NODES as usize - 1));
+        let dst = ((src as usize + distance) % NODES as usize) as u16;
+        Row {
+            src,
+            dst,
+            due: (distance + random.within(low, high)).min(1024) as u16,
+        }
+    };
+    (0..ROWS).map(row).collect()
+}
+
+/// A hundred tables of one answer, on which the planners agree in every number and entry.
+fn tables(random: &mut Random, low: usize, high: usize, number: u16) -> (Vec<Vec<Row>>, Vec<u16>) {
+    let (mut found, mut instants) = (Vec::new(), Vec::new());
+    while found.len() < TABLES {
+        let rows = table(random, low, high);
+        let outcome = |planner: Planner| {
+            let mut areas = Areas::dirty();
+            (
+                planner(NODES, &rows, &mut areas.plan, &mut areas.arrivals),
+                areas.plan,
+                areas.arrivals,
+            )
+        };
+        let [ours, scanned, scanned_min] = PLANNERS.map(outcome);
+        assert!(
+            ours == scanned && ours == scanned_min,
+            "the planners differ"
+        );
+        let ours = ours.0;
+        if ours.number == number && (number == 0 || ours.slot > 0) {
+            instants.push(if number == 0 { ours.last } else { ours.slot });
+            found.push(rows);
+        }
+    }
+    (found, instants)
+}
+
+fn median<T: Copy + PartialOrd>(mut all: Vec<T>) -> T {
+    all.sort_by(|a, b| a.partial_cmp(b).unwrap());
+    all[all.len() / 2]
+}
+
+/// Microseconds for one call.
+fn time(planner: Planner, rows: &[Row], areas: &mut Areas) -> f64 {
+    areas.plan.fill(0xabcd);
+    areas.arrivals.fill(0xabcd);
+    let start = Instant::now();
+    black_box(planner(
+        black_box(NODES),
+        black_box(rows),
+        black_box(&mut areas.plan),
+        black_box(&mut areas.arrivals),
+    ));
+    start.elapsed().as_secs_f64() * 1e6
+}
+
+fn compare(name: &str, tables: &[Vec<Row>], instants: Vec<u16>) {
+    let mut areas = Areas::dirty();
+    let mut times = [Vec::new(), Vec::new(), Vec::new()];
+    for round in 0..ROUNDS {
+        // each goes through all tables by itself, and another goes first in the next round
+        for k in (0..3).map(|k| (k + round) % 3) {
+            for rows in tables {
+                times[k].push(time(PLANNERS[k], rows, &mut areas));
+            }
+        }
+    }
+    let [ours, scan, least] = times.map(median);
+    println!(
+        "{name}: {TABLES} tables, {ROUNDS} rounds; last or late instant, median: {}",
+        median(instants)
+    );
+    println!("  ours {ours:.1} us; scan with branches {scan:.1} us, ratio {:.2}; scan without {least:.1} us, ratio {:.2}", ours / scan, ours / least);
+}
+
+fn main() {
+    let mut random = Random::new(14);
+    println!("{ROWS} rows, {NODES} nodes; areas filled with a pattern, not cleared, before each call; medians over all calls");
+    let (loose, instants) = tables(&mut random, 400, 1024, 0);
+    compare("not late", &loose, instants);
+    let (late, instants) = tables(&mut random, 0, 300, 9);
+    compare("late", &late, instants);
+}

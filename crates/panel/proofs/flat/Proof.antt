@@ -1,0 +1,26 @@
+-- `panel::flat` meets its contract: each arm's numbers are those of its case of `flatOf`.
+-- Assumes nothing.
+use mathlib.Core.Path.{sym, ap}
+use borrow.Author.Needs.{needs}
+use Rattle.panel.specs.Panel.{flatOf}
+use Rattle.panel.proofs.flat.Statement.{statement}
+use Rattle.panel.proofs.flat.Tie as tie
+use Rattle.panel.proofs.flat.Reads as reads
+use Rattle.panel.proofs.flat.Lts as lts
+
+enum-known-a : tie.Need-enum-known-a
+enum-known-a c = search needs
+
+enum-known-a-2 : tie.Need-enum-known-a-2
+enum-known-a-2 c = search needs
+
+returns : tie.Need-returns
+unfolding flatOf
+returns c = sym (ap flatOf (c .before .a .given .1))
+
+returns-2 : tie.Need-returns-2
+unfolding flatOf
+returns-2 c = sym (ap flatOf (c .before .a2 .given .1))
+
+pub flat-spec : {M : Type 1} → statement M
+flat-spec = tie.close (tie.spec enum-known-a enum-known-a-2 returns returns-2)

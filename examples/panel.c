@@ -1,0 +1,81 @@
+/* An operator's path: enter a table, plan it, look at the plan; then meet a refusal, mend it, and meet a late table. */
+#include "garboardle.h"
+
+#include <stdio.h>
+
+static uint16_t plan[GARBOARDLE_MOST_ENTRIES];
+static uint16_t arrivals[GARBOARDLE_MOST_ARRIVALS];
+
+/* The length of an array. */
+#define LENGTH(a) (sizeof(a) / sizeof((a)[0]))
+
+static const char *const words[] = {
+    "accepted",
+    "nodes outside 2 to 32",
+    "more than 512 rows",
+    "source not below nodes",
+    "destination not below nodes",
+    "source equals destination",
+    "due slot outside 1 to 1024",
+    "plan area too short",
+    "arrivals area too short",
+    "late",
+};
+
+static unsigned largest_due(const struct garboardle_row *rows, size_t count)
+{
+    unsigned due = 0;
+    for (size_t i = 0; i < count; i++)
+        if (due < rows[i].due)
+            due = rows[i].due;
+    return due;
+}
+
+static void show_plan(uint16_t nodes, unsigned slots)
+{
+    for (unsigned t = 0; t < slots; t++) {
+        printf("  slot %u:", t);
+        for (unsigned p = 0; p < nodes; p++)
+            printf(" %u", (unsigned)plan[t * nodes + p]);
+        printf("\n");
+    }
+}
+
+static void operate(const char *what, uint16_t nodes, const struct garboardle_row *rows, size_t count)
+{
+    printf("%s: %u nodes\n", what, (unsigned)nodes);
+    for (size_t i = 0; i < count; i++)
+        printf("  row %zu: %u to %u, due %u\n", i + 1, (unsigned)rows[i].src, (unsigned)rows[i].dst, (unsigned)rows[i].due);
+
+    struct garboardle_answer a =
+        garboardle_plan(nodes, rows, count, plan, LENGTH(plan), arrivals, LENGTH(arrivals));
+    printf("  answer %u (%s), row %u, slot %u\n", (unsigned)a.number, words[a.number], (unsigned)a.row, (unsigned)a.slot);
+    if (a.number != 0)
+        return;
+
+    show_plan(nodes, largest_due(rows, count));
+    for (size_t i = 0; i < count; i++)
+        printf("  row %zu is there at %u\n", i + 1, (unsigned)arrivals[i]);
+    printf("  last %u, sends %lu, sum %lu, mean %.4f, share %.4f\n", (unsigned)a.last, (unsigned long)a.sends,
+           (unsigned long)a.sum, a.mean, a.share);
+}
+
+int main(void)
+{
+    struct garboardle_row table[] = {{0, 1, 2}, {0, 3, 3}};
+    operate("entered", 4, table, LENGTH(table));
+
+    table[0].dst = 4;
+    operate("mistyped", 4, table, LENGTH(table));
+
+    table[0].dst = 2;
+    table[0].due = 4;
+    operate("mended", 4, table, LENGTH(table));
+
+    table[0].due = 2;
+    operate("hurried", 4, table, LENGTH(table));
+
+    struct garboardle_answer a = garboardle_plan(4, table, LENGTH(table), plan, 11, arrivals, LENGTH(arrivals));
+    printf("11 entries lent, 12 needed: answer %u (%s)\n", (unsigned)a.number, words[a.number]);
+    return 0;
+}

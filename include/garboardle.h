@@ -1,0 +1,70 @@
+/* Plans a slotted ring: which message each link carries in each slot, so that every message is in time.
+   Link with libpanel.a (docs/PANEL.md says how to build it). */
+#ifndef GARBOARDLE_H
+#define GARBOARDLE_H
+
+#include <stddef.h>
+#include <stdint.h>
+
+#ifdef __cplusplus
+extern "C" {
+#endif
+
+#define GARBOARDLE_MOST_NODES 32
+#define GARBOARDLE_MOST_ROWS 512
+#define GARBOARDLE_LATEST_DUE 1024
+
+/* Areas of these lengths are long enough for every table. */
+#define GARBOARDLE_MOST_ENTRIES (GARBOARDLE_MOST_NODES * GARBOARDLE_LATEST_DUE)
+#define GARBOARDLE_MOST_ARRIVALS GARBOARDLE_MOST_ROWS
+
+/* One message: from node src to node dst, there at instant due or before. Rows are numbered from 1, in list order. */
+struct garboardle_row {
+    uint16_t src;
+    uint16_t dst;
+    uint16_t due;
+};
+
+/* The planner's answer. Accepted: number, row and slot are 0, and the figures are those of the plan, all 0 for an empty
+   table. Refused: number says why, row and slot say where, and the figures are 0.
+
+   number  given when                            row  slot
+   1       nodes outside 2 to 32                 0    0
+   2       more than 512 rows                    0    0
+   3       source not below nodes                row  0
+   4       destination not below nodes           row  0
+   5       source equals destination             row  0
+   6       due slot outside 1 to 1,024           row  0
+   7       plan area shorter than needed         0    0
+   8       arrivals area shorter than the rows   0    0
+   9       late: no schedule is in time          row  instant
+
+   They are checked in the order 1, 2, the rows in order with 3 to 6 within a row, 7, 8, 9; the first that holds is given. */
+struct garboardle_answer {
+    uint16_t number;
+    uint16_t row;
+    uint16_t slot;
+    uint16_t last;  /* last delivery instant */
+    uint32_t sends; /* sends: the sum of all distances */
+    uint32_t sum;   /* sum of the delivery instants */
+    double mean;    /* mean delay: sum / rows */
+    double share;   /* used share: sends / (nodes * largest due slot) */
+};
+
+/* Plans the table of rows by the rule of least slack.
+
+   The caller lends all three lists for the call, and nothing is kept of them after it: rows is read; plan and arrivals are
+   written. None is null, not even with length 0, and plan and arrivals overlap neither each other nor rows.
+   plan needs nodes * (largest due slot) entries, and arrivals one for each row.
+
+   Accepted: plan[t * nodes + p] is the row that link p carries in slot t, 0 for idle; arrivals[i] is the instant at which
+   row i + 1 is at its destination. Refused with 9: those entries of both are 0. Refused with 1 to 8: both are as they were.
+   No entry past those needed is touched. */
+struct garboardle_answer garboardle_plan(uint16_t nodes, const struct garboardle_row *rows, size_t rows_len,
+                                         uint16_t *plan, size_t plan_len, uint16_t *arrivals, size_t arrivals_len);
+
+#ifdef __cplusplus
+}
+#endif
+
+#endif

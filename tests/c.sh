@@ -1,0 +1,22 @@
+#!/usr/bin/env bash
+# The header as C99 and C++, and the operator's path of examples/panel.c, whose output is held to examples/panel.out.
+# It needs the archive: rt staticlib panel.
+set -euo pipefail
+cd "$(dirname "$0")/.."
+archive=target/staticlib/libpanel.a
+out=target/c
+warnings="-Wall -Wextra -Werror -pedantic"
+mkdir -p "$out"
+
+gcc -std=c99 $warnings -fsyntax-only -x c include/garboardle.h
+g++ -std=c++11 $warnings -fsyntax-only -x c++ include/garboardle.h
+gcc -std=c11 $warnings -fsyntax-only -Iinclude -x c - << 'END'
+#include "garboardle.h"
+_Static_assert(sizeof(struct garboardle_row) == 6 && sizeof(struct garboardle_answer) == 32, "sizes");
+_Static_assert(offsetof(struct garboardle_answer, last) == 6 && offsetof(struct garboardle_answer, sum) == 12, "numbers");
+_Static_assert(offsetof(struct garboardle_answer, mean) == 16 && offsetof(struct garboardle_answer, share) == 24, "floats");
+END
+gcc -std=c99 $warnings -O2 -Iinclude examples/panel.c "$archive" -o "$out/panel"
+"$out/panel" > "$out/panel.out"
+diff -u examples/panel.out "$out/panel.out"
+echo "c: ok"

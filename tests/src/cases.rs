@@ -1,0 +1,302 @@
+//! Random tables of several kinds, each tried in full. A kind and a seed are a table: the same seed repeats it.
+
+use crate::checker;
+use crate::compare::agree;
+use crate::model::entries;
+use crate::panel::Row;
+use crate::random::Random;
+use crate::search;
+use std::collections::BTreeMap;
+use std::sync::atomic::{AtomicU64, Ordering};
+
+/// What came of the tables tried, by name.
+pub type Tally = BTreeMap<&'static str, usize>;
+
+pub type Kind = fn(&mut Random) -> Result<&'static str, String>;
+
+/// The seed of the table that is being tried, for a test whose process may end in the midst of it.
+pub static UNDER_TEST: AtomicU64 = AtomicU64::new(0);
+
+/// Runs `count` tables of a kind from a first seed on, or just the one of the variable SEED, and counts what came of them.
+pub fn each(test: &str, kind: Kind, first: u64, count: u64) -> Tally {
+    let (first, count) = match std::env::var("SEED") {
+        Ok(seed) => (seed.parse().expect("SEED is no number"), 1),
+        Err(_) => (first, count),
+    };
+    let mut tally = Tally::new();
+    for seed in first..first + count {
+        UNDER_TEST.store(seed, Ordering::Relaxed);
+        match kind(&mut Random::new(seed)) {
+            Ok(name) => *tally.entry(name).or_insert(0) += 1,
+            Err(what) => {
+                panic!("{what}\nrepeat: SEED={seed} cargo test --release --offline --test {test}")
+            }
+        }
+    }
+    println!("{test}: {count} tables: {tally:?}");
+    tally
+}
+
+fn row(random: &mut Random, nodes: u16, due: impl FnOnce(&mut Random, usize) -> usize) -> Row {
+    let src = random.node(nodes);
+    let distance = random.within(1, nodes as usize - 1);
+    let dst = ((src as usize + distance) % nodes as usize) as u16;
+    Row {
+        src,
+        dst,
+        due: due(random, distance) as u16,
+    }
+}
+
+fn told(nodes: u16, rows: &[Row], what: String) -> String {
+    let rows: Vec<String> = rows
+        .iter()
+        .map(|r| format!("{}>{}/{}", r.src, r.dst, r.due))
+        .collect();
+    format!("{what}\n{nodes}; {}", rows.join(", "))
+}
+
+/// A small table against the model, the search and the checker.
+pub fn small(random: &mut Random) -> Result<&'static str, String> {
+    let nodes = random.within(2, 5) as u16;
+    let count = random.within(0, 5).max(random.within(0, 5));
+    let near = !random.once_in(4);
+    let crowded = random.once_in(2);
+    let mut rows: Vec<Row> = (0..count)
+        .map(|_| {
+            row(random, nodes, |random, distance| {
+                if near {
+                    (distance + random.within(0, 2)).min(6)
+                } else {
+                    random.within(1, 6)
+                }
+            })
+        })
+        .collect();
+    if crowded {
+        let src = random.node(nodes);
+        rows.iter_mut()
+            .filter(|r| r.dst != src)
+            .for_each(|r| r.src = src);
+    }
+    judged(random, nodes, &rows)
+}
+
+/// A table of at most five rows, whose answer must be 9 exactly when no legal schedule meets it.
+pub fn judged(random: &mut Random, nodes: u16, rows: &[Row]) -> Result<&'static str, String> {
+    let tell = |what: String| told(nodes, rows, what);
+    let needed = entries(nodes, rows);
+    let (plan_len, arrivals_len) = (
+        needed + random.within(0, 3),
+        rows.len() + random.within(0, 3),
+    );
+    let planned = agree(random, nodes, rows, plan_len, arrivals_len).map_err(tell)?;
+    match (planned.answer.number, search::schedule(nodes, rows)) {
+        (0, Some(found)) => {
+            checker::check(nodes, rows, &found)
+                .map_err(|e| tell(format!("the search's own schedule: {e}")))?;
+            checked(
+                nodes,
+                rows,
+                &planned.plan[..needed],
+                &planned.arrivals[..rows.len()],
+            )
+            .map_err(tell)?;
+            Ok("accepted")
+        }
+        (9, None) if planned.answer.slot == 0 => Ok("late at once"),
+        (9, None) => Ok("late"),
+        (0, None) => Err(tell("accepted, and no schedule meets it".to_string())),
+        (9, Some(found)) => Err(tell(format!("late, and this schedule meets it: {found:?}"))),
+        (other, _) => Err(tell(format!("refusal {other} of a good table"))),
+    }
+}
+
+fn checked(nodes: u16, rows: &[Row], plan: &[u16], arrivals: &[u16]) -> Result<(), String> {
+    let arrived = checker::check(nodes, rows, plan)?;
+    if arrived != arrivals {
+        return Err("the arrivals are not those of the plan".to_string());
+    }
+    checker::follows_rule(nodes, rows, plan)
+}
+
+/// Delivery instants of a schedule that sends at random, and so slots by which every row can be there.
+fn reachable(random: &mut Random, nodes: u16, rows: &[Row]) -> Vec<u16> {
+    let n = nodes as usize;
+    let idle = random.within(4, 40);
+    let mut held: Vec<Vec<usize>> = vec![Vec::new(); n];
+    for (i, r) in rows.iter().enumerate() {
+        held[r.src as usize].push(i);
+    }
+    let mut arrived = vec![0; rows.len()];
+    let mut left = rows.len();
+    let mut t = 0;
+    while left > 0 {
+        t += 1;
+        let mut moving = Vec::new();
+        for (p, here) in held.iter_mut().enumerate() {
+            if here.is_empty() || (t < 300 && random.once_in(idle)) {
+                continue;
+            }
+            let i = random.within(0, here.len() - 1);
+            moving.push((here.swap_remove(i), (p + 1) % n));
+        }
+        for (i, q) in moving {
+            if q == rows[i].dst as usize {
+                arrived[i] = t;
+                left -= 1;
+            } else {
+                held[q].push(i);
+            }
+        }
+    }
+    arrived
+}
+
+/// How a large table's due slots are set.
+#[derive(Clone, Copy, PartialEq)]
+pub enum Dues {
+    /// Late in the day.
+    Loose,
+    /// By a schedule that meets them, with nothing or little to spare.
+    Tight,
+    /// The same, with those of one node's rows, or of a few rows, cut.
+    Cut,
+}
+
+/// Sets due slots so early that most often some row is late: a node that sends one row in each slot can't send m rows that
+/// must all have left before m slots are over.
+fn cut(random: &mut Random, nodes: u16, rows: &mut [Row]) {
+    let distance = |r: &Row| (r.dst + nodes - r.src) % nodes;
+    let one = rows[random.within(0, rows.len() - 1)];
+    if random.once_in(4) {
+        for _ in 0..random.within(1, 4) {
+            let i = random.within(0, rows.len() - 1);
+            rows[i].due = (rows[i].due / 2).max(1);
+        }
+        return;
+    }
+    let m = rows.iter().filter(|r| r.src == one.src).count();
+    let short = random.within(1, 3);
+    for r in rows.iter_mut().filter(|r| r.src == one.src) {
+        r.due = distance(r) + random.within(0, m.saturating_sub(short)) as u16;
+    }
+}
+
+/// The rows of a large table.
+pub fn large_table(random: &mut Random, nodes: u16, count: usize, dues: Dues) -> Vec<Row> {
+    let mut rows: Vec<Row> = (0..count)
+        .map(|_| row(random, nodes, |random, _| random.within(620, 1024)))
+        .collect();
+    if random.once_in(4) {
+        // most of them from few nodes
+        let few = random.within(1, 3);
+        for r in rows.iter_mut() {
+            let src = random.within(0, few - 1) as u16 % nodes;
+            if src != r.dst {
+                r.src = src;
+            }
+        }
+    }
+    if dues != Dues::Loose {
+        let spare = random.within(0, 1);
+        let instants = reachable(random, nodes, &rows);
+        for (r, at) in rows.iter_mut().zip(instants) {
+            r.due = at + random.within(0, spare) as u16;
+        }
+    }
+    if dues == Dues::Cut && count > 0 {
+        cut(random, nodes, &mut rows);
+    }
+    assert!(rows.iter().all(|r| (1..=1024).contains(&r.due)));
+    rows
+}
+
+/// A large table against the model and, where it is accepted, the checker.
+pub fn large(random: &mut Random) -> Result<&'static str, String> {
+    let nodes = random.within(2, 32) as u16;
+    let nodes = if random.once_in(4) { 32 } else { nodes };
+    let count = if random.once_in(4) {
+        512
+    } else {
+        random.within(0, 512)
+    };
+    let dues = [Dues::Loose, Dues::Tight, Dues::Tight, Dues::Cut, Dues::Cut][random.within(0, 4)];
+    let rows = large_table(random, nodes, count, dues);
+    let tell = |what: String| told(nodes, &rows, what);
+    let needed = entries(nodes, &rows);
+    let plan_len = needed
+        + if random.once_in(3) {
+            0
+        } else {
+            random.within(1, 200)
+        };
+    let arrivals_len = count
+        + if random.once_in(3) {
+            0
+        } else {
+            random.within(1, 200)
+        };
+    let planned = agree(random, nodes, &rows, plan_len, arrivals_len).map_err(tell)?;
+    if planned.answer.number == 9 {
+        if dues == Dues::Tight {
+            return Err(tell(
+                "late, and the schedule that set its due slots meets it".to_string(),
+            ));
+        }
+        return Ok("late");
+    }
+    checked(
+        nodes,
+        &rows,
+        &planned.plan[..needed],
+        &planned.arrivals[..count],
+    )
+    .map_err(tell)?;
+    let no_spare = rows
+        .iter()
+        .zip(&planned.arrivals)
+        .any(|(r, &at)| r.due == at);
+    Ok(if no_spare { "tight" } else { "loose" })
+}
+
+/// A table with up to three faults, or areas of about the needed length, against the model.
+pub fn faulty(random: &mut Random) -> Result<&'static str, String> {
+    let mut nodes = random.within(2, 32) as u16;
+    let count = if random.once_in(3) {
+        random.within(1, 6)
+    } else {
+        random.within(1, 512)
+    };
+    let mut rows = large_table(random, nodes, count, Dues::Loose);
+    let top = random.within(1, 1024) as u16;
+    rows.iter_mut().for_each(|r| r.due = r.due.min(top).max(1));
+    let needed = entries(nodes, &rows);
+    let mut plan_len = needed + random.within(0, 2);
+    let mut arrivals_len = count + random.within(0, 2);
+    for _ in 0..random.within(0, 3) {
+        let i = random.within(0, rows.len() - 1);
+        match random.within(1, 8) {
+            1 => nodes = [0, 1, 33, 34, 64, 65535][random.within(0, 5)],
+            2 => {
+                let more = random.within(513, 700);
+                rows.resize(more, rows[0]);
+            }
+            3 => rows[i].src = [nodes, nodes.saturating_add(1), 65535][random.within(0, 2)],
+            4 => rows[i].dst = [nodes, nodes.saturating_add(1), 65535][random.within(0, 2)],
+            5 => rows[i].dst = rows[i].src,
+            6 => rows[i].due = [0, 1025, 1026, 65535][random.within(0, 3)],
+            7 => {
+                plan_len =
+                    [0, needed / 2, needed.saturating_sub(2), needed - 1][random.within(0, 3)]
+            }
+            _ => {
+                arrivals_len =
+                    [0, count / 2, count.saturating_sub(2), count - 1][random.within(0, 3)]
+            }
+        }
+    }
+    let planned = agree(random, nodes, &rows, plan_len, arrivals_len)
+        .map_err(|what| told(nodes, &rows, what))?;
+    Ok(["accepted", "1", "2", "3", "4", "5", "6", "7", "8", "9"][planned.answer.number as usize])
+}

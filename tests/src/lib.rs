@@ -1,0 +1,9 @@
+//! The panel's functions, tried from outside against an independent model, an exhaustive search and a checker.
+
+pub mod cases;
+pub mod checker;
+pub mod compare;
+pub mod model;
+pub mod panel;
+pub mod random;
+pub mod search;

@@ -1,0 +1,180 @@
+//! The planner of document 01, written from its words alone: messages that stand at nodes, and nodes that hold them.
+
+use crate::panel::{Answer, Row};
+
+struct Message {
+    number: u16,
+    to: u16,
+    due: i64,
+}
+
+struct Ring {
+    nodes: u16,
+    /// The messages that each node holds, in no order.
+    held: Vec<Vec<Message>>,
+    now: u16,
+}
+
+impl Ring {
+    fn start(nodes: u16, rows: &[Row]) -> Ring {
+        let mut held: Vec<Vec<Message>> = (0..nodes).map(|_| Vec::new()).collect();
+        for (number, row) in (1..).zip(rows) {
+            held[row.src as usize].push(Message {
+                number,
+                to: row.dst,
+                due: i64::from(row.due),
+            });
+        }
+        Ring {
+            nodes,
+            held,
+            now: 0,
+        }
+    }
+
+    fn to_go(&self, from: u16, to: u16) -> u16 {
+        if from <= to {
+            to - from
+        } else {
+            self.nodes - from + to
+        }
+    }
+
+    fn slack(&self, at: u16, m: &Message) -> i64 {
+        (m.due - i64::from(self.now)) - i64::from(self.to_go(at, m.to))
+    }
+
+    fn is_empty(&self) -> bool {
+        self.held.iter().all(Vec::is_empty)
+    }
+
+    /// The lowest row whose slack is below zero.
+    fn late(&self) -> Option<u16> {
+        let at_node = |p: u16| {
+            self.held[p as usize]
+                .iter()
+                .filter(move |m| self.slack(p, m) < 0)
+                .map(|m| m.number)
+        };
+        (0..self.nodes).flat_map(at_node).min()
+    }
+
+    /// One slot: each node picks its message, and then all of them move. What each link carried.
+    fn send(&mut self, arrivals: &mut [u16]) -> Vec<u16> {
+        let mut under_way: Vec<Option<Message>> = Vec::new();
+        for p in 0..self.nodes {
+            let best = self.held[p as usize]
+                .iter()
+                .enumerate()
+                .min_by_key(|(_, m)| (self.slack(p, m), m.number))
+                .map(|(i, _)| i);
+            under_way.push(best.map(|i| self.held[p as usize].swap_remove(i)));
+        }
+        self.now += 1;
+        let carried = under_way
+            .iter()
+            .map(|m| m.as_ref().map_or(0, |m| m.number))
+            .collect();
+        for (p, m) in (0..self.nodes).zip(under_way) {
+            let Some(m) = m else { continue };
+            let next = if p + 1 == self.nodes { 0 } else { p + 1 };
+            if next == m.to {
+                arrivals[m.number as usize - 1] = self.now;
+            } else {
+                self.held[next as usize].push(m);
+            }
+        }
+        carried
+    }
+}
+
+fn refused(number: u16, row: u16, slot: u16) -> Answer {
+    Answer {
+        number,
+        row,
+        slot,
+        ..Answer::default()
+    }
+}
+
+/// What is wrong with one row.
+fn fault(nodes: u16, row: &Row) -> Option<u16> {
+    if row.src >= nodes {
+        Some(3)
+    } else if row.dst >= nodes {
+        Some(4)
+    } else if row.src == row.dst {
+        Some(5)
+    } else if !(1..=1024).contains(&row.due) {
+        Some(6)
+    } else {
+        None
+    }
+}
+
+/// The first of refusals 1 to 6 that holds.
+fn unfit(nodes: u16, rows: &[Row]) -> Option<Answer> {
+    if !(2..=32).contains(&nodes) {
+        return Some(refused(1, 0, 0));
+    }
+    if rows.len() > 512 {
+        return Some(refused(2, 0, 0));
+    }
+    (1..)
+        .zip(rows)
+        .find_map(|(number, row)| fault(nodes, row).map(|f| refused(f, number, 0)))
+}
+
+/// Entries that the plan of a good table has.
+pub fn entries(nodes: u16, rows: &[Row]) -> usize {
+    nodes as usize * rows.iter().map(|r| r.due as usize).max().unwrap_or(0)
+}
+
+/// The answer, with `plan` and `arrivals` as the planner leaves them.
+pub fn plan(nodes: u16, rows: &[Row], plan: &mut [u16], arrivals: &mut [u16]) -> Answer {
+    if let Some(answer) = unfit(nodes, rows) {
+        return answer;
+    }
+    let needed = entries(nodes, rows);
+    if plan.len() < needed {
+        return refused(7, 0, 0);
+    }
+    if arrivals.len() < rows.len() {
+        return refused(8, 0, 0);
+    }
+
+    let plan = &mut plan[..needed];
+    let arrivals = &mut arrivals[..rows.len()];
+    plan.fill(0);
+    arrivals.fill(0);
+    let mut ring = Ring::start(nodes, rows);
+    let sends: u32 = rows
+        .iter()
+        .map(|r| u32::from(ring.to_go(r.src, r.dst)))
+        .sum();
+    while !ring.is_empty() {
+        if let Some(row) = ring.late() {
+            plan.fill(0);
+            arrivals.fill(0);
+            return refused(9, row, ring.now);
+        }
+        let first = ring.now as usize * nodes as usize;
+        let carried = ring.send(arrivals);
+        plan[first..first + carried.len()].copy_from_slice(&carried);
+    }
+
+    if rows.is_empty() {
+        return Answer::default();
+    }
+    let sum: u32 = arrivals.iter().map(|&a| u32::from(a)).sum();
+    Answer {
+        number: 0,
+        row: 0,
+        slot: 0,
+        last: *arrivals.iter().max().unwrap(),
+        sends,
+        sum,
+        mean: f64::from(sum) / rows.len() as f64,
+        share: f64::from(sends) / needed as f64,
+    }
+}

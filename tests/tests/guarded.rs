@@ -1,0 +1,156 @@
+//! The lent lists with pages on both sides that may not be touched: a read or a write past an end, by one byte, ends the test.
+#![cfg(target_os = "linux")]
+
+use panel_tests::cases::{each, large_table, Dues, UNDER_TEST};
+use panel_tests::model;
+use panel_tests::panel::{self, Row};
+use panel_tests::random::Random;
+use std::ffi::c_void;
+use std::io::Write;
+use std::sync::atomic::Ordering;
+
+extern "C" {
+    fn mmap(
+        at: *mut c_void,
+        len: usize,
+        rights: i32,
+        flags: i32,
+        file: i32,
+        from: i64,
+    ) -> *mut c_void;
+    fn mprotect(at: *mut c_void, len: usize, rights: i32) -> i32;
+    fn munmap(at: *mut c_void, len: usize) -> i32;
+    fn signal(number: i32, handler: extern "C" fn(i32)) -> usize;
+    fn write(file: i32, bytes: *const u8, len: usize) -> isize;
+    fn _exit(status: i32) -> !;
+}
+
+const PAGE: usize = 4096;
+const SIGSEGV: i32 = 11;
+const NO_RIGHTS: i32 = 0;
+const READ_AND_WRITE: i32 = 3;
+const PRIVATE_AND_OF_NO_FILE: i32 = 0x22;
+
+/// A copy of some entries between two pages without rights, at the end of its room or at the start.
+struct Guarded<T> {
+    room: *mut c_void,
+    size: usize,
+    first: *mut T,
+    len: usize,
+}
+
+impl<T: Copy> Guarded<T> {
+    fn new(entries: &[T], at_end: bool) -> Guarded<T> {
+        let bytes = size_of_val(entries);
+        let size = bytes.div_ceil(PAGE) * PAGE + 2 * PAGE;
+        unsafe {
+            let room = mmap(
+                std::ptr::null_mut(),
+                size,
+                NO_RIGHTS,
+                PRIVATE_AND_OF_NO_FILE,
+                -1,
+                0,
+            );
+            assert!(room as isize != -1);
+            if bytes > 0 {
+                assert_eq!(
+                    mprotect(room.byte_add(PAGE), size - 2 * PAGE, READ_AND_WRITE),
+                    0
+                );
+            }
+            let first = room
+                .byte_add(if at_end { size - PAGE - bytes } else { PAGE })
+                .cast::<T>();
+            first.copy_from_nonoverlapping(entries.as_ptr(), entries.len());
+            Guarded {
+                room,
+                size,
+                first,
+                len: entries.len(),
+            }
+        }
+    }
+
+    fn entries(&mut self) -> &mut [T] {
+        unsafe { std::slice::from_raw_parts_mut(self.first, self.len) }
+    }
+}
+
+impl<T> Drop for Guarded<T> {
+    fn drop(&mut self) {
+        unsafe { munmap(self.room, self.size) };
+    }
+}
+
+fn guarded(random: &mut Random) -> Result<&'static str, String> {
+    let nodes = [2, 3, 31, 32, 33][random.within(0, 4)];
+    let count = [0, 1, 2, 300, 511, 512][random.within(0, 5)];
+    let dues = [Dues::Loose, Dues::Tight, Dues::Cut][random.within(0, 2)];
+    let mut rows = large_table(random, nodes, count, dues);
+    if random.once_in(8) {
+        rows.resize(
+            [513, 600, 100_000][random.within(0, 2)],
+            Row {
+                src: 0,
+                dst: 1,
+                due: 1,
+            },
+        );
+    }
+    if count > 0 && random.once_in(8) {
+        let i = random.within(0, count - 1);
+        rows[i].src = nodes;
+    }
+    let needed = model::entries(nodes, &rows);
+    let plan_len = if random.once_in(5) {
+        random.within(0, needed)
+    } else {
+        needed
+    };
+    let arrivals_len = if random.once_in(5) {
+        random.within(0, count)
+    } else {
+        rows.len()
+    };
+
+    let mut plan = random.pattern(plan_len);
+    let mut arrivals = random.pattern(arrivals_len);
+    let mut lent_rows = Guarded::new(&rows, random.once_in(2));
+    let mut lent_plan = Guarded::new(&plan, random.once_in(2));
+    let mut lent_arrivals = Guarded::new(&arrivals, random.once_in(2));
+    let answer = panel::plan(
+        nodes,
+        lent_rows.entries(),
+        lent_plan.entries(),
+        lent_arrivals.entries(),
+    );
+    let expected = model::plan(nodes, &rows, &mut plan, &mut arrivals);
+    if answer != expected
+        || lent_plan.entries() != plan
+        || lent_arrivals.entries() != arrivals
+        || lent_rows.entries() != rows
+    {
+        return Err(format!("answers {answer:?}, and the model {expected:?}"));
+    }
+    Ok(["accepted", "1", "2", "3", "4", "5", "6", "7", "8", "9"][answer.number as usize])
+}
+
+/// A touch of a guarded page: says which table it was, and ends the process.
+extern "C" fn touched(_: i32) {
+    let mut line = [0; 160];
+    let mut rest = &mut line[..];
+    let seed = UNDER_TEST.load(Ordering::Relaxed);
+    let _ = writeln!(rest, "an entry past a lent list was touched\nrepeat: SEED={seed} cargo test --release --offline --test guarded");
+    let unused = rest.len();
+    unsafe {
+        write(2, line.as_ptr(), line.len() - unused);
+        _exit(101);
+    }
+}
+
+#[test]
+fn nothing_past_the_lent_lists() {
+    unsafe { signal(SIGSEGV, touched) };
+    each("guarded", guarded, 3_000_000, 1_500);
+}

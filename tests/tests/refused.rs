@@ -1,0 +1,133 @@
+//! Tables that are turned away, and areas of every length around the needed one.
+
+use panel_tests::cases::{each, faulty};
+use panel_tests::compare::agree;
+use panel_tests::model::entries;
+use panel_tests::panel::{Answer, Row};
+use panel_tests::random::Random;
+
+fn row(src: u16, dst: u16, due: u16) -> Row {
+    Row { src, dst, due }
+}
+
+/// Number, row and slot of the answer, which the model has agreed to.
+fn answer(nodes: u16, rows: &[Row], plan_len: usize, arrivals_len: usize) -> (u16, u16, u16) {
+    let planned = agree(&mut Random::new(7), nodes, rows, plan_len, arrivals_len).unwrap();
+    (
+        planned.answer.number,
+        planned.answer.row,
+        planned.answer.slot,
+    )
+}
+
+#[test]
+fn random_faults() {
+    let tally = each("refused", faulty, 2_000_000, 4_000);
+    if std::env::var("SEED").is_err() {
+        for number in ["1", "2", "3", "4", "5", "6", "7", "8", "9", "accepted"] {
+            assert!(
+                tally.get(number).is_some_and(|&k| k >= 50),
+                "too few {number}: {tally:?}"
+            );
+        }
+    }
+}
+
+#[test]
+fn each_number_alone() {
+    let good = [row(0, 1, 9), row(3, 2, 9), row(1, 0, 9)];
+    let with = |r: Row| [good[0], r, good[2]];
+    assert_eq!(answer(4, &good, 36, 3), (0, 0, 0));
+    for nodes in [0, 1, 33, 65535] {
+        assert_eq!(answer(nodes, &good, 36, 3), (1, 0, 0));
+    }
+    assert_eq!(answer(4, &[good[0]; 513], 36, 513), (2, 0, 0));
+    assert_eq!(answer(4, &with(row(4, 2, 9)), 36, 3), (3, 2, 0));
+    assert_eq!(answer(4, &with(row(3, 4, 9)), 36, 3), (4, 2, 0));
+    assert_eq!(answer(4, &with(row(3, 3, 9)), 36, 3), (5, 2, 0));
+    assert_eq!(answer(4, &with(row(3, 2, 0)), 36, 3), (6, 2, 0));
+    assert_eq!(answer(4, &with(row(3, 2, 1025)), 36, 3), (6, 2, 0));
+    assert_eq!(answer(4, &good, 35, 3), (7, 0, 0));
+    assert_eq!(answer(4, &good, 36, 2), (8, 0, 0));
+    assert_eq!(answer(4, &with(row(3, 2, 2)), 36, 3), (9, 2, 0));
+}
+
+#[test]
+fn the_order_of_the_checks() {
+    let worst = row(65535, 65535, 65535);
+    assert_eq!(answer(33, &[worst; 513], 0, 0), (1, 0, 0));
+    assert_eq!(answer(32, &[worst; 513], 0, 0), (2, 0, 0));
+    assert_eq!(answer(32, &[worst; 512], 0, 0), (3, 1, 0));
+    assert_eq!(answer(32, &[row(0, 65535, 65535)], 0, 0), (4, 1, 0));
+    assert_eq!(answer(32, &[row(0, 0, 65535)], 0, 0), (5, 1, 0));
+    assert_eq!(answer(32, &[row(0, 31, 65535)], 0, 0), (6, 1, 0));
+    assert_eq!(answer(32, &[row(0, 31, 1)], 31, 0), (7, 0, 0));
+    assert_eq!(answer(32, &[row(0, 31, 1)], 32, 0), (8, 0, 0));
+    assert_eq!(answer(32, &[row(0, 31, 1)], 32, 1), (9, 1, 0));
+    // a lower row's 6 stands before a higher row's 3
+    assert_eq!(answer(4, &[row(0, 1, 0), row(4, 1, 1)], 0, 0), (6, 1, 0));
+}
+
+#[test]
+fn areas_of_every_length() {
+    let rows = [row(0, 1, 2), row(0, 3, 3), row(2, 1, 5)];
+    let late = [row(0, 1, 2), row(0, 3, 3), row(0, 1, 2), row(0, 1, 2)];
+    for (rows, number) in [(&rows[..], 0), (&late[..], 9)] {
+        let needed = entries(4, rows);
+        for plan_len in 0..needed + 9 {
+            for arrivals_len in 0..rows.len() + 5 {
+                let expected = if plan_len < needed {
+                    7
+                } else if arrivals_len < rows.len() {
+                    8
+                } else {
+                    number
+                };
+                assert_eq!(answer(4, rows, plan_len, arrivals_len).0, expected);
+            }
+        }
+    }
+}
+
+#[test]
+fn no_rows() {
+    for nodes in 2..=32 {
+        for (plan_len, arrivals_len) in [(0, 0), (0, 9), (9, 0), (9, 9)] {
+            let planned = agree(&mut Random::new(8), nodes, &[], plan_len, arrivals_len).unwrap();
+            assert_eq!(planned.answer, Answer::default());
+        }
+    }
+    for nodes in [0, 1, 33, 65535] {
+        assert_eq!(answer(nodes, &[], 0, 0), (1, 0, 0));
+    }
+}
+
+#[test]
+fn many_rows() {
+    let good = row(0, 1, 1024);
+    let full = vec![good; 512];
+    assert_eq!(answer(2, &full, 2048, 512), (0, 0, 0));
+    assert_eq!(answer(2, &full, 2047, 512), (7, 0, 0));
+    assert_eq!(answer(2, &full, 2048, 511), (8, 0, 0));
+    for count in [513, 514, 1024, 65_535, 65_536, 66_048, 100_000] {
+        let rows = vec![good; count];
+        assert_eq!(answer(2, &rows, 2048, count), (2, 0, 0));
+        assert_eq!(answer(2, &rows, 0, 0), (2, 0, 0));
+        assert_eq!(answer(1, &rows, 2048, count), (1, 0, 0));
+    }
+}
+
+#[test]
+fn full_tables_to_the_last_slot() {
+    // one link carries 512 rows in 512 slots, and not in 511
+    for (nodes, dst) in [(2, 1), (32, 31)] {
+        let all = |due: u16| vec![row(0, dst, due); 512];
+        let last = 511 + dst;
+        let planned = agree(&mut Random::new(10), nodes, &all(last), 32 * 1024, 512).unwrap();
+        assert_eq!((planned.answer.number, planned.answer.last), (0, last));
+        assert!((dst..)
+            .zip(&planned.arrivals)
+            .all(|(at, &arrival)| at == arrival));
+        assert_eq!(answer(nodes, &all(last - 1), 32 * 1024, 512), (9, 512, 511));
+    }
+}
