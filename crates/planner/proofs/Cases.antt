@@ -12,7 +12,8 @@ use lib.ListN.{length, replicate}
 use Rattle.lists.specs.Lists.{total, largest}
 use Rattle.ring.specs.Ring.{distance, standing}
 use Rattle.table.specs.declared.Row.{Row}
-use Rattle.table.specs.Table.{refuse, rowRefusal, judgeRows, judge, sources, destinations, dues, distances, lastDue}
+use Rattle.table.specs.Table.{refuse, rowRefusal, judgeRows, judge, destinations, dues, distances, lastDue}
+use Rattle.table.specs.Steps.{sources}
 use Rattle.slack.specs.Slack.{underWay, place, slackOf, slack, isLate, lateFrom, lateRow, better, pick, slotOf, moved, stateAt, planOf, deliveredFrom, arrivalsOf, anyUnderWay, stopFrom, stopOf}
 use Rattle.planner.specs.declared.Answer.{Answer}
 use Rattle.planner.specs.declared.Answer.the-variants.{Accepted, Refused}

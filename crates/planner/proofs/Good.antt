@@ -17,8 +17,8 @@ use Rattle.ring.specs.Ring.{distance}
 use Rattle.ring.proofs.Turn.{apart, within-turn}
 use Rattle.table.specs.declared.Row.{Row}
 use Rattle.table.specs.declared.Verdict.the-variants.{Good}
-use Rattle.table.specs.Table.{judgeRows, rowsOf, refuse, destinations, dues, distances, lastDue}
-use Rattle.table.specs.Steps.{SameRows, Measuring}
+use Rattle.table.specs.Table.{judgeRows, refuse, destinations, dues, distances, lastDue}
+use Rattle.table.specs.Steps.{rowsOf, SameRows, Measuring}
 use Rattle.table.proofs.Judging.{GoodRow, good-rows, rows-long, rows-at, its-destinations, its-dues, its-distances}
 use Rattle.slack.specs.declared.Stop.{Stop}
 use Rattle.slack.specs.Slack.{Traffic, traffic, OnRing, planOf, arrivalsOf, stopOf}

@@ -19,7 +19,8 @@ use Rattle.table.specs.declared.Columns.{Columns}
 use Rattle.table.specs.declared.Refusal.{Refusal}
 use Rattle.table.specs.declared.Verdict.{Verdict}
 use Rattle.table.specs.declared.Verdict.the-variants as verdict
-use Rattle.table.specs.Table.{judge, judgeRows, WellFormed, refuse, listed, rowsOf}
+use Rattle.table.specs.Table.{judge, judgeRows, WellFormed, refuse}
+use Rattle.table.specs.Steps.{listed, rowsOf}
 use Rattle.planner.specs.declared.Answer.{Answer}
 use Rattle.planner.specs.declared.Answer.the-variants.{Refused}
 use Rattle.planner.specs.Planner.{Planned, theAnswer, answerToRows, afterVerdict, areaAfter}

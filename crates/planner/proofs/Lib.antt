@@ -1,6 +1,6 @@
 pub mod Loaded
-mod Answering
-mod Good
-mod Judged
+pub mod Answering
+pub mod Good
+pub mod Judged
 pub mod Promises
 mod Cases

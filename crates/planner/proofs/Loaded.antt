@@ -11,7 +11,8 @@ use lib.ListN.{length, drop, replicate}
 use Rattle.table.specs.declared.Row.{Row}
 use Rattle.table.specs.declared.Verdict.{Verdict}
 use Rattle.table.specs.declared.Verdict.the-variants as verdict
-use Rattle.table.specs.Table.{judge, judgeRows, refuse, columns, listed}
+use Rattle.table.specs.Table.{judge, judgeRows, refuse}
+use Rattle.table.specs.Steps.{columns, listed}
 use Rattle.table.proofs.Rows.{length-listed, listed-columns}
 use Rattle.planner.specs.declared.Answer.{Answer}
 use Rattle.planner.specs.declared.Answer.the-variants.{Refused}

@@ -21,7 +21,8 @@ use Rattle.lists.proofs.Figures.{at-most-largest}
 use Rattle.table.specs.declared.Row.{Row}
 use Rattle.table.specs.declared.Refusal.{Refusal}
 use Rattle.table.specs.declared.Verdict.the-variants as verdict
-use Rattle.table.specs.Table.{WellFormed, judge, judgeRows, refuse, sources, destinations, dues, distances, lastDue, rowsOf}
+use Rattle.table.specs.Table.{WellFormed, judge, judgeRows, refuse, destinations, dues, distances, lastDue}
+use Rattle.table.specs.Steps.{sources, rowsOf}
 use Rattle.table.proofs.Rows.{rows-of-columns, same-rows}
 use Rattle.slack.specs.Slack.{Traffic, OnRing, planOf, stateAt, lateRow, stopOf}
 use Rattle.slack.specs.Steps.{AllUnderWay}
@@ -49,10 +50,10 @@ one-outcome {n} {rows} {plan} {arrivals} a b =
     )
 
 module _ (n : ℕ) (rows : List Row) (well : WellFormed n rows) where
-  tabled : Tabled n (sources rows) (destinations rows) (dues rows)
+  pub tabled : Tabled n (sources rows) (destinations rows) (dues rows)
   tabled = let s = sound n rows well in record { least = s .least; most = s .most; same = same-rows rows (s .few) }
 
-  all-good : judgeRows n (rowsOf (sources rows) (destinations rows) (dues rows)) 0 ≡ verdict.Good
+  pub all-good : judgeRows n (rowsOf (sources rows) (destinations rows) (dues rows)) 0 ≡ verdict.Good
   all-good = rw (rows-of-columns rows) (sound n rows well .each)
 
   table-on-ring : OnRing (trafficOf n rows) (distances n rows)

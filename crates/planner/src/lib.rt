@@ -1,6 +1,7 @@
 ghost use mathlib.Core.Path.{_≡_};
 ghost use lib.ListN.{length, replicate};
-ghost use Rattle.table.specs.Table.{judgeRows, listed, refuse, rowsOf};
+ghost use Rattle.table.specs.Table.{judgeRows, refuse};
+ghost use Rattle.table.specs.Steps.{listed, rowsOf};
 ghost use Prim.Native.Nat.{ℕ, _≤_};
 ghost use Rattle.slack.specs.Slack.{traffic};
 ghost use Rattle.planner.specs.Planner.{Planned, quotient, summaryOf};
@@ -156,7 +157,7 @@ fn plan_rows(
 }
 
 // Plans the first `rows` rows of the columns: the whole planner, on plain numbers.
-fn plan_columns(
+pub fn plan_columns(
     nodes: u16,
     rows: usize,
     columns: Columns,

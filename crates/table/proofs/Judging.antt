@@ -21,8 +21,8 @@ use Rattle.table.specs.declared.Row.{Row}
 use Rattle.table.specs.declared.Refusal.{Refusal}
 use Rattle.table.specs.declared.Verdict.{Verdict}
 use Rattle.table.specs.declared.Verdict.the-variants.{Good, Refused}
-use Rattle.table.specs.Table.{none, latest-due, refuse, rowRefusal, judgeRows, rowsOf, destinations, dues, distances}
-use Rattle.table.specs.Steps.{SameRows}
+use Rattle.table.specs.Table.{latest-due, refuse, rowRefusal, judgeRows, destinations, dues, distances}
+use Rattle.table.specs.Steps.{none, rowsOf, SameRows}
 
 module _ (n : ℕ) (rows : List Row) (i : ℕ) where
   pub judge-here : i < length rows → (rowRefusal n (getD rows i none) ≡ 0 → ⊥) → judgeRows n (drop i rows) i ≡ Refused (refuse (rowRefusal n (getD rows i none)) (i + 1) 0)

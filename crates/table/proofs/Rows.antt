@@ -18,8 +18,8 @@ use Rattle.lists.specs.Lists.{build}
 use Rattle.lists.proofs.Build.{length-build, build-ext, build-of}
 use Rattle.table.specs.declared.Row.{Row}
 use Rattle.table.specs.declared.Columns.{Columns}
-use Rattle.table.specs.Table.{none, column, columns, listed, sources, destinations, dues, rowsOf}
-use Rattle.table.specs.Steps.{SameRows}
+use Rattle.table.specs.Table.{destinations, dues}
+use Rattle.table.specs.Steps.{none, column, columns, listed, sources, rowsOf, SameRows}
 
 -- ---- one column
 getD-zeros : (p j : ℕ) → getD {A = ℕ} (replicate p 0) j 0 ≡ zero

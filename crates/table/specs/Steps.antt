@@ -1,9 +1,12 @@
--- What single steps of the code ask. The judgement of a table speaks of Table.antt alone; nothing here has to be believed.
+-- Rows by columns, and what single steps of the code ask. The judgement of a table speaks of Table.antt alone.
 use Prim.Native.Nat.{ℕ, _≤_, _<_}
 use mathlib.Core.Path.{_≡_}
-use mathlib.Core.List.{List}
-use lib.ListN.{length, getD}
-use Rattle.table.specs.Table.{most-rows}
+use mathlib.Core.List.{List, map, _++_}
+use lib.ListN.{length, getD, take, replicate}
+use Rattle.lists.specs.Lists.{build}
+use Rattle.table.specs.declared.Row.{Row}
+use Rattle.table.specs.declared.Columns.{Columns}
+use Rattle.table.specs.Table.{most-rows, destinations, dues}
 
 -- Three columns hold the same rows, no more than a table may have.
 pub record SameRows (src dst due : List ℕ) : Type 0 where
@@ -17,3 +20,27 @@ pub record Measuring (n : ℕ) (src dst left : List ℕ) : Type 0 where
   pub left-each : length left ≡ length src
   pub src-inside : (i : ℕ) → i < length src → getD src i 0 < n
   pub dst-inside : (i : ℕ) → i < length src → getD dst i 0 < n
+
+-- The row of three zeros, which is read past the end of a list.
+abbrev pub none : Row
+none = record { src = 0; dst = 0; due = 0 }
+
+-- The sources of a list of rows.
+unfoldable pub sources : List Row → List ℕ
+sources = map (λ (r : Row). r .src)
+
+-- A column of 512 places: the first 512 entries, and 0 behind them.
+unfoldable pub column : List ℕ → List ℕ
+column xs = take most-rows (xs ++ replicate most-rows 0)
+
+-- The first 512 rows, by columns.
+unfoldable pub columns : List Row → Columns
+columns rows = record { src = column (sources rows); dst = column (destinations rows); due = column (dues rows) }
+
+-- The rows that three columns of one length hold.
+unfoldable pub rowsOf : (src dst due : List ℕ) → List Row
+rowsOf src dst due = build (length src) (λ i. record { src = getD src i 0; dst = getD dst i 0; due = getD due i 0 })
+
+-- The rows that a count and columns of 512 places stand for.
+unfoldable pub listed : ℕ → Columns → List Row
+listed count c = build count (λ i. record { src = getD (c .src) i 0; dst = getD (c .dst) i 0; due = getD (c .due) i 0 })

@@ -2,20 +2,15 @@
 use Prim.Native.Nat.{ℕ, zero, suc}
 use mathlib.Core.Path.{_≡_}
 use mathlib.Core.Bool.{Bool, cond, _||_}
-use mathlib.Core.List.{List, [], _∷_, map, _++_}
+use mathlib.Core.List.{List, [], _∷_, map}
 use lib.Dec.{eqb, ltb, leb}
-use lib.ListN.{length, getD, take, replicate}
-use Rattle.lists.specs.Lists.{build, largest}
+use lib.ListN.{length}
+use Rattle.lists.specs.Lists.{largest}
 use Rattle.ring.specs.Ring.{distance}
 use Rattle.table.specs.declared.Row.{Row}
-use Rattle.table.specs.declared.Columns.{Columns}
 use Rattle.table.specs.declared.Refusal.{Refusal}
 use Rattle.table.specs.declared.Verdict.{Verdict}
 use Rattle.table.specs.declared.Verdict.the-variants.{Good, Refused}
-
--- The row of three zeros, which is read past the end of a list.
-abbrev pub none : Row
-none = record { src = 0; dst = 0; due = 0 }
 
 -- The most rows that a table may have.
 abbrev pub most-rows : ℕ
@@ -53,10 +48,7 @@ judge n rows =
 abbrev pub WellFormed : ℕ → List Row → Type 0
 WellFormed n rows = judge n rows ≡ Good
 
--- The sources, destinations and due slots of a list of rows.
-unfoldable pub sources : List Row → List ℕ
-sources = map (λ (r : Row). r .src)
-
+-- The destinations and due slots of a list of rows.
 unfoldable pub destinations : List Row → List ℕ
 destinations = map (λ (r : Row). r .dst)
 
@@ -70,19 +62,3 @@ distances n = map (λ (r : Row). distance n (r .src) (r .dst))
 -- The largest due slot, 0 for an empty table.
 unfoldable pub lastDue : List Row → ℕ
 lastDue rows = largest (dues rows)
-
--- A column of 512 places: the first 512 entries, and 0 behind them.
-unfoldable pub column : List ℕ → List ℕ
-column xs = take most-rows (xs ++ replicate most-rows 0)
-
--- The first 512 rows, by columns.
-unfoldable pub columns : List Row → Columns
-columns rows = record { src = column (sources rows); dst = column (destinations rows); due = column (dues rows) }
-
--- The rows that three columns of one length hold.
-unfoldable pub rowsOf : (src dst due : List ℕ) → List Row
-rowsOf src dst due = build (length src) (λ i. record { src = getD src i 0; dst = getD dst i 0; due = getD due i 0 })
-
--- The rows that a count and columns of 512 places stand for.
-unfoldable pub listed : ℕ → Columns → List Row
-listed count c = build count (λ i. record { src = getD (c .src) i 0; dst = getD (c .dst) i 0; due = getD (c .due) i 0 })

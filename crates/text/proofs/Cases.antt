@@ -4,11 +4,13 @@ use mathlib.Core.Path.{_≡_, refl}
 use mathlib.Core.Bool.{Bool, true, false, cond, _&&_}
 use mathlib.Core.List.{List, [], _∷_, map, _++_}
 use Prim.Native.Nat.{ℕ}
+use lib.ListN.{replicate}
 use Rattle.table.specs.Table.{refuse}
 use Rattle.table.specs.declared.Row.{Row}
 use Rattle.text.specs.declared.Reading.{Reading}
 use Rattle.text.specs.declared.Reading.the-variants.{Read, Refused}
-use Rattle.text.specs.Text.{width, lastDigits, numeral, line, rowText, rowsText, textOf, starts, digitsAt, extended, lineValue, lineGood, lineRest, wrongInRow, rowAt, pastRow, wrongLine, rowsAt, nodesIn, rowsIn, bodyOf, readingOfRows, readingOfBody, readingOf, rowsRead}
+use Rattle.text.specs.declared.Writing.the-variants.{Written, Refused as NotWritten}
+use Rattle.text.specs.Text.{width, lastDigits, numeral, line, rowText, rowsText, textOf, starts, digitsAt, extended, lineValue, lineGood, lineRest, wrongInRow, rowAt, pastRow, wrongLine, rowsAt, nodesIn, rowsIn, bodyOf, readingOfRows, readingOfBody, readingOf, rowsRead, writingOf, areaAfter}
 
 -- The rows of case B, and its text as document 01 prints it.
 abbrev pub case-b : List Row
@@ -36,6 +38,24 @@ case-b-read = refl
 pub case-b-rows : rowsRead case-b-text 2 ≡ case-b
 unfolding width lastDigits numeral line starts digitsAt extended lineValue lineGood lineRest wrongInRow rowAt pastRow wrongLine rowsAt nodesIn rowsIn bodyOf readingOfRows readingOfBody readingOf rowsRead
 case-b-rows = refl
+
+-- Its text has 51 bytes: an area of 50 is too short, one of 51 will do, and of one of 53 two bytes are left alone.
+pub case-b-too-long : writingOf 4 case-b 50 ≡ NotWritten (refuse 22 0 0)
+unfolding width lastDigits numeral line rowText rowsText textOf writingOf
+case-b-too-long = refl
+
+pub case-b-fits : writingOf 4 case-b 51 ≡ Written 51
+unfolding width lastDigits numeral line rowText rowsText textOf writingOf
+case-b-fits = refl
+
+pub case-b-in-area : areaAfter 4 case-b (replicate {A = ℕ} 53 7) ≡ case-b-text ++ (7 ∷ 7 ∷ [])
+unfolding width lastDigits numeral line rowText rowsText textOf areaAfter
+case-b-in-area = refl
+
+-- A table of 513 rows is not written, however long the area is.
+pub too-many-rows : writingOf 4 (replicate {A = Row} 513 (record { src = 0; dst = 1; due = 2 })) 20000 ≡ NotWritten (refuse 2 0 0)
+unfolding width lastDigits numeral line rowText rowsText textOf writingOf
+too-many-rows = refl
 
 -- A text, and the refusal that it gets where 2 records are lent.
 pub record Wrong : Type 0 where

@@ -1,4 +1,4 @@
--- The first two lines, and what follows directly after them, as `read` goes on.
+-- The first two lines, and what follows directly after them, as `read_columns` goes on.
 -- Assumes nothing.
 use mathlib.Core.Path.{_≡_, refl, _∙_, ap, sym}
 use mathlib.Core.Bool.{Bool, true, false, cond, _&&_}
@@ -8,7 +8,8 @@ use native.Mathlib.Omega.{arith}
 use borrow.Author.Tests.{lt-ltb, le-ltb, eq-eqb, ne-eqb}
 use lib.Dec.{eqb, ltb}
 use lib.ListN.{length, drop}
-use Rattle.table.specs.Table.{refuse, columns}
+use Rattle.table.specs.Table.{refuse}
+use Rattle.table.specs.Steps.{columns}
 use Rattle.table.specs.declared.Refusal.{Refusal}
 use Rattle.text.specs.declared.Header.{Header}
 use Rattle.text.specs.declared.Reading.{Reading}

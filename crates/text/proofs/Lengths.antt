@@ -8,7 +8,7 @@ use native.Mathlib.Numerals.{add-one}
 use lib.ListN.{length, getD, length-append}
 use Rattle.lists.specs.Lists.{build}
 use Rattle.lists.proofs.Build.{length-build}
-use Rattle.table.specs.Table.{listed}
+use Rattle.table.specs.Steps.{listed}
 use Rattle.table.specs.declared.Row.{Row}
 use Rattle.table.specs.declared.Columns.{Columns}
 use Rattle.text.specs.Text.{width, src-key, dst-key, due-key, line, rowText, rowsText}

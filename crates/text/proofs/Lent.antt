@@ -13,7 +13,8 @@ use borrow.Author.Tests.{lt-ltb, ltb-true, ltb-false}
 use lib.Dec.{ltb}
 use lib.ListN.{length, drop}
 use Rattle.table.specs.declared.Row.{Row}
-use Rattle.table.specs.Table.{refuse, columns, listed}
+use Rattle.table.specs.Table.{refuse}
+use Rattle.table.specs.Steps.{columns, listed}
 use Rattle.table.proofs.Rows.{length-listed, listed-columns}
 use Rattle.text.specs.declared.Parsed.{Parsed}
 use Rattle.text.specs.declared.Reading.{Reading}

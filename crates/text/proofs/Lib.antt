@@ -6,13 +6,14 @@ mod Rows
 pub mod RowLaws
 mod Loading
 mod Heading
-mod Pasting
-mod Lengths
-mod Placing
+pub mod Pasting
+pub mod Lengths
+pub mod Placing
 mod Outcomes
 pub mod RoundTrip
 mod ColumnLaws
 mod Parsing
 mod Lent
 pub mod Promises
+pub mod FirstWrong
 mod Counting

@@ -13,7 +13,8 @@ use borrow.Author.Tests.{eq-eqb, ne-eqb, eqb-true, eqb-false}
 use lib.Dec.{eqb}
 use lib.ListN.{length, getD, set, drop, length-drop, length-append, length-map, replicate, drop-of-length-le}
 use lib.Seq.{drop-drop, drop-append-seam}
-use Rattle.table.specs.Table.{column, columns, sources, destinations, dues}
+use Rattle.table.specs.Table.{destinations, dues}
+use Rattle.table.specs.Steps.{column, columns, sources}
 use Rattle.table.specs.declared.Row.{Row}
 use Rattle.text.specs.declared.RowSeen.{RowSeen}
 use Rattle.text.specs.declared.RowSeen.the-variants.{Whole, Broken}

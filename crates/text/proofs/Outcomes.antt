@@ -8,7 +8,8 @@ use native.Mathlib.Omega.{arith}
 use borrow.Author.Tests.{lt-ltb, le-ltb}
 use lib.Dec.{ltb}
 use lib.ListN.{length, drop, length-append}
-use Rattle.table.specs.Table.{refuse, listed}
+use Rattle.table.specs.Table.{refuse}
+use Rattle.table.specs.Steps.{listed}
 use Rattle.table.specs.declared.Row.{Row}
 use Rattle.table.specs.declared.Columns.{Columns}
 use Rattle.text.specs.declared.Writing.{Writing}

@@ -5,7 +5,8 @@ use mathlib.Core.List.{List, [], _∷_, _++_}
 use Prim.Native.Nat.{ℕ, zero, suc, _≤_}
 use native.Mathlib.Omega.{arith}
 use lib.ListN.{length, replicate}
-use Rattle.table.specs.Table.{columns, listed, sources, destinations, dues}
+use Rattle.table.specs.Table.{destinations, dues}
+use Rattle.table.specs.Steps.{columns, listed, sources}
 use Rattle.table.specs.declared.Row.{Row}
 use Rattle.table.specs.declared.Columns.{Columns}
 use Rattle.text.specs.declared.Parsed.{Parsed}
@@ -13,7 +14,8 @@ use Rattle.text.specs.declared.Reading.{Reading}
 use Rattle.text.specs.declared.Reading.the-variants.{Read, Refused}
 use Rattle.text.specs.Text.{rowsAt, bodyOf, readingOf, rowsRead, filled, TextParsed}
 use Rattle.text.specs.Steps.{held, TextRead}
-use Rattle.text.proofs.ColumnLaws.{column-none, listed-columns}
+use Rattle.text.proofs.ColumnLaws.{column-none}
+use Rattle.table.proofs.Rows.{listed-columns}
 use Rattle.text.proofs.Loading.{rowsAt-length}
 use Rattle.text.proofs.RoundTrip.{read-fits}
 

@@ -1,6 +1,6 @@
--- Bytes written into an area, and the bytes of a line.
+-- Bytes written into an area, and the bytes of a number behind a key.
 --     tenth-more, last-at           the digits of a number one by one
---     key-byte, digit-byte, end-byte   the bytes of a line
+--     key-byte, digit-byte, end-byte   the bytes of a number behind a key
 --     pasted-all, pasted-length, pasted-more   pieces written one behind the other
 -- Assumes nothing.
 use mathlib.Core.Path.{_≡_, refl, _∙_, ap, sym}
@@ -14,7 +14,7 @@ use borrow.Author.Tests.{ltb-true, ltb-false}
 use lib.Dec.{ltb}
 use lib.ListN.{length, getD, take, drop, set, length-append, length-drop, List·getD-append}
 use lib.Seq.{paste, paste-suc, length-paste, take-length, take-at, drop-at, drop-drop, length-take-le, getD-append-add, getD-at}
-use Rattle.text.specs.Text.{width, lastDigits, numeral, line}
+use Rattle.text.specs.Text.{width, lastDigits, numeral, item, line}
 use Rattle.text.specs.Steps.{tenth, pasted}
 use Rattle.text.proofs.Numeral.{last-length, numeral-length}
 use Rattle.text.proofs.Lines.{line-length}
@@ -44,27 +44,30 @@ last-at (suc k) v i h = go (ltb i k) refl (last-at k (v / 10) i)
         let none : suc k - 1 - i ≡ 0 = omega arith in
         rw none (getD-at (lastDigits k (v / 10)) (48 + v % 10) [] 0 i (last-length k (v / 10) ∙ last))
 
-module _ (key : List ℕ) (v j : ℕ) where
-  pub key-byte : j < length key → getD key j 0 ≡ getD (line key v) j 0
-  unfolding line
-  key-byte h = sym (List·getD-append key (numeral v ++ (10 ∷ [])) 0 j h)
+-- a line has as many bytes as any other number behind that key
+pub item-as-long : (key : List ℕ) (v mark : ℕ) → length (line key v) ≡ length (item key v mark)
+unfolding line
+item-as-long key v mark = simp length-append
+
+module _ (key : List ℕ) (v mark j : ℕ) where
+  pub key-byte : j < length key → getD key j 0 ≡ getD (item key v mark) j 0
+  key-byte h = sym (List·getD-append key (numeral v ++ (mark ∷ [])) 0 j h)
 
   module _ (past : length key ≤ j) where
-    behind : getD (line key v) j 0 ≡ getD (numeral v ++ (10 ∷ [])) (j - length key) 0
-    unfolding line
+    behind : getD (item key v mark) j 0 ≡ getD (numeral v ++ (mark ∷ [])) (j - length key) 0
     behind =
         let sum : length key + (j - length key) ≡ j = omega arith in
-        ap (λ (i : ℕ). getD (key ++ (numeral v ++ (10 ∷ []))) i 0) (sym sum) ∙ getD-append-add key (numeral v ++ (10 ∷ [])) (j - length key) 0
+        ap (λ (i : ℕ). getD (key ++ (numeral v ++ (mark ∷ []))) i 0) (sym sum) ∙ getD-append-add key (numeral v ++ (mark ∷ [])) (j - length key) 0
 
-    pub digit-byte : (w : ℕ) → w ≡ width v → j - length key < w → 48 + tenth (w - 1 - (j - length key)) v % 10 ≡ getD (line key v) j 0
+    pub digit-byte : (w : ℕ) → w ≡ width v → j - length key < w → 48 + tenth (w - 1 - (j - length key)) v % 10 ≡ getD (item key v mark) j 0
     unfolding numeral
     digit-byte w e h =
         let short : j - length key < length (numeral v) = omega (arith, numeral-length v) in
-        sym (behind ∙ List·getD-append (numeral v) (10 ∷ []) 0 (j - length key) short ∙ last-at (width v) v (j - length key) (omega arith) ∙ rw e)
+        sym (behind ∙ List·getD-append (numeral v) (mark ∷ []) 0 (j - length key) short ∙ last-at (width v) v (j - length key) (omega arith) ∙ rw e)
 
-    pub end-byte : (w : ℕ) → w ≡ width v → w ≤ j - length key → j < length (line key v) → 10 ≡ getD (line key v) j 0
+    pub end-byte : (w : ℕ) → w ≡ width v → w ≤ j - length key → j < length (item key v mark) → mark ≡ getD (item key v mark) j 0
     end-byte w e h l =
-        sym (behind ∙ getD-at (numeral v) 10 [] 0 (j - length key) (omega (arith, numeral-length v, line-length key v)))
+        sym (behind ∙ getD-at (numeral v) mark [] 0 (j - length key) (omega (arith, numeral-length v, line-length key v, item-as-long key v mark)))
 
 module _ (area : List ℕ) (at : ℕ) where
   pub pasted-all : (bytes : List ℕ) → paste area at bytes (length bytes) ≡ pasted area at bytes

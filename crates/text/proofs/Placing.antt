@@ -5,7 +5,7 @@ use mathlib.Core.List.{List, [], _∷_, _++_, append-assoc, append-nil}
 use Prim.Native.Nat.{ℕ, zero, suc, _+_, _-_, _≤_, _<_}
 use native.Mathlib.Omega.{arith}
 use lib.ListN.{length, take, drop, length-append, take-append-drop}
-use Rattle.table.specs.Table.{listed}
+use Rattle.table.specs.Steps.{listed}
 use Rattle.table.specs.declared.Columns.{Columns}
 use Rattle.text.specs.Text.{rowText, rowsText}
 use Rattle.text.specs.Steps.{pasted}

@@ -5,7 +5,7 @@ use mathlib.Core.List.{List, [], _∷_, _++_}
 use lib.Dec.{eqb, ltb, leb}
 use lib.ListN.{length, take, drop}
 use mathlib.Core.Path.{_≡_}
-use Rattle.table.specs.Table.{columns}
+use Rattle.table.specs.Steps.{columns}
 use Rattle.table.specs.declared.Columns.{Columns}
 use Rattle.text.specs.declared.Figures.{Figures}
 use Rattle.text.specs.declared.Header.{Header}

@@ -5,7 +5,8 @@ use mathlib.Core.Bool.{Bool, true, false, cond, _&&_}
 use mathlib.Core.List.{List, [], _∷_, _++_}
 use lib.Dec.{eqb, ltb, leb}
 use lib.ListN.{length, drop}
-use Rattle.table.specs.Table.{refuse, most-rows, columns, listed}
+use Rattle.table.specs.Table.{refuse, most-rows}
+use Rattle.table.specs.Steps.{columns, listed}
 use Rattle.table.specs.declared.Row.{Row}
 use Rattle.text.specs.declared.Header.{Header}
 use Rattle.text.specs.declared.Parsed.{Parsed}
@@ -54,9 +55,13 @@ lastDigits (suc k) v = lastDigits k (v / 10) ++ ((digit-zero + v % 10) ∷ [])
 unfoldable pub numeral : ℕ → List ℕ
 numeral v = lastDigits (width v) v
 
+-- A number behind a key, and one byte that marks its end.
+abbrev pub item : (key : List ℕ) → ℕ → (mark : ℕ) → List ℕ
+item key v mark = key ++ (numeral v ++ (mark ∷ []))
+
 -- A line: the key with its equals sign, the numeral and one line feed.
 unfoldable pub line : (key : List ℕ) → ℕ → List ℕ
-line key v = key ++ (numeral v ++ (line-feed ∷ []))
+line key v = item key v line-feed
 
 -- The three lines of a row: src, dst, due.
 unfoldable pub rowText : Row → List ℕ
@@ -202,10 +207,14 @@ areaAfter n rows area =
     cond (ltb most-rows (length rows)) area
     (cond (ltb (length area) (length (textOf n rows))) area (textOf n rows ++ drop (length (textOf n rows)) area))
 
--- The number of document 01 for each answer: 0 where there is no refusal.
+-- The number of document 01 for each answer, 0 where there is no refusal, and the line that it names, 0 where it names none.
 abbrev pub numberOfReading : Reading → ℕ
 numberOfReading (Read h) = 0
 numberOfReading (Refused r) = r .number
+
+abbrev pub lineOfReading : Reading → ℕ
+lineOfReading (Read h) = 0
+lineOfReading (Refused r) = r .row
 
 abbrev pub numberOfWriting : Writing → ℕ
 numberOfWriting (Written n) = 0

@@ -3,8 +3,9 @@ ghost use mathlib.Core.List.{[], _++_};
 ghost use Prim.Native.Nat.{ℕ, suc, min, _+_, _-_, _*_, _^_, _%_, _≤_, _<_};
 ghost use lib.Dec.{ltb};
 ghost use lib.ListN.{length, getD, take, drop, replicate};
-ghost use Rattle.table.specs.Table.{refuse, listed, columns};
-ghost use Rattle.text.specs.Text.{TextParsed, starts, readingOf, rowsRead, width, filled, line, rowText, rowsText, textOf, writingOf, areaAfter, digit-zero, TextTaken, TextPut};
+ghost use Rattle.table.specs.Table.{refuse};
+ghost use Rattle.table.specs.Steps.{listed, columns};
+ghost use Rattle.text.specs.Text.{TextParsed, starts, readingOf, rowsRead, width, filled, item, line, rowText, rowsText, textOf, writingOf, areaAfter, digit-zero, TextTaken, TextPut};
 ghost use Rattle.text.specs.Steps.{figuresIn, lineSeen, rowSeen, RowsTaken, TextRead, tenth, pasted, held};
 use ring::Slot;
 use table::Columns;
@@ -307,16 +308,16 @@ fn digit(v: u16, behind: usize) -> u8
 
 // The length of a line.
 fn line_length(key: &[u8], v: u16) -> usize
-    requires { ⌜ length (now key) ≤ 6 ⌝ }
+    requires { ⌜ length (now key) ≤ 16 ⌝ }
     ensures { λ r. ⌜ r ≡ length (line (now (key .entry)) v) ⌝ }
 {
     key.len() + width_of(v as u32) + 1
 }
 
-// A byte of a line: of its key, of its numeral, or the line feed.
-fn line_byte(key: &[u8], v: u16, j: usize) -> u8
-    requires { ⌜ j < length (line (now key) v) ⌝ }
-    ensures { λ r. ⌜ r ≡ getD (line (now (key .entry)) v) j 0 ⌝ }
+// A byte of a number behind a key: of the key, of the numeral, or the mark.
+fn item_byte(key: &[u8], v: u16, mark: u8, j: usize) -> u8
+    requires { ⌜ j < length (item (now key) v mark) ⌝ }
+    ensures { λ r. ⌜ r ≡ getD (item (now (key .entry)) v mark) j 0 ⌝ }
 {
     if j < key.len() {
         return key[j];
@@ -326,21 +327,29 @@ fn line_byte(key: &[u8], v: u16, j: usize) -> u8
     if d < w {
         return digit(v, w - 1 - d);
     }
-    10
+    mark
 }
 
-// Writes a line at a place, and returns the place behind it.
-fn put_line(area: &mut [u8], at: usize, key: &[u8], v: u16) -> usize
-    requires { ⌜ (at + length (line (now key) v) ≤ length (now area)) × (length (now key) ≤ 6) ⌝ }
-    ensures { λ r. ⌜ (r ≡ at + length (line (now (key .entry)) v)) × (now (area .exit) ≡ pasted (now (area .entry)) at (line (now (key .entry)) v)) ⌝ }
+// Writes a number behind a key, and a mark, at a place, and returns the place behind them.
+pub fn put_item(area: &mut [u8], at: usize, key: &[u8], v: u16, mark: u8) -> usize
+    requires { ⌜ (at + length (item (now key) v mark) ≤ length (now area)) × (length (now key) ≤ 16) ⌝ }
+    ensures { λ r. ⌜ (r ≡ at + length (item (now (key .entry)) v mark)) × (now (area .exit) ≡ pasted (now (area .entry)) at (item (now (key .entry)) v mark)) ⌝ }
 {
     let n = line_length(key, v);
     let mut j = 0;
     while j < n {
-        area[at + j] = line_byte(key, v, j);
+        area[at + j] = item_byte(key, v, mark, j);
         j += 1;
     }
     at + n
+}
+
+// Writes a line at a place, and returns the place behind it.
+pub fn put_line(area: &mut [u8], at: usize, key: &[u8], v: u16) -> usize
+    requires { ⌜ (at + length (line (now key) v) ≤ length (now area)) × (length (now key) ≤ 16) ⌝ }
+    ensures { λ r. ⌜ (r ≡ at + length (line (now (key .entry)) v)) × (now (area .exit) ≡ pasted (now (area .entry)) at (line (now (key .entry)) v)) ⌝ }
+{
+    put_item(area, at, key, v, 10)
 }
 
 // The length of a row's three lines.

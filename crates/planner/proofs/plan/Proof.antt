@@ -41,7 +41,7 @@ use denote.Triple.Walked.{says, Stays, stay-none, stay-none-slice, gave-slice, w
 use denote.Exit.{yes}
 use Rattle.table.specs.declared.Row.{Row}
 use Rattle.table.specs.declared.Columns.{Columns}
-use Rattle.table.specs.Table.{columns, listed}
+use Rattle.table.specs.Steps.{columns, listed}
 use Rattle.table.proofs.Row as T
 use Rattle.table.proofs.Columns as B
 use Rattle.table.proofs.Columns.Laws as B′

@@ -4,7 +4,8 @@ use mathlib.Core.Path.{_≡_, sym}
 use native.Mathlib.Omega.{arith}
 use lib.ListN.{length}
 use lib.Seq.{length-take-le}
-use Rattle.table.specs.Table.{refuse, listed}
+use Rattle.table.specs.Table.{refuse}
+use Rattle.table.specs.Steps.{listed}
 use Rattle.table.proofs.Rows.{length-listed}
 use Rattle.planner.proofs.Judged.{judge-few, judge-wide, judge-many, turned-away, listed-fronts, fronts-tabled}
 use borrow.Author.Needs.{needs}

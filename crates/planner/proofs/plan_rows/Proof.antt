@@ -1,7 +1,7 @@
 -- `planner::plan_rows` meets its contract: the rows are judged first, and planned where they are good.
 -- Assumes nothing.
 use mathlib.Core.Path.{_≡_, refl, _∙_, sym}
-use Rattle.table.specs.Table.{rowsOf}
+use Rattle.table.specs.Steps.{rowsOf}
 use Rattle.table.proofs.Judging.{rows-long, judged-early}
 use Rattle.planner.proofs.Judged.{judge-each, turned-away, let-through}
 use borrow.Author.Needs.{needs}

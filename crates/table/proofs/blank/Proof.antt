@@ -1,7 +1,8 @@
 -- `table::blank` meets its contract: the columns of no rows are 512 zeros each.
 -- Assumes nothing.
 use mathlib.Core.Path.{refl}
-use Rattle.table.specs.Table.{columns, column, sources, destinations, dues}
+use Rattle.table.specs.Table.{destinations, dues}
+use Rattle.table.specs.Steps.{columns, column, sources}
 use Rattle.table.proofs.blank.Statement.{statement}
 use Rattle.table.proofs.blank.Tie as tie
 

@@ -5,7 +5,8 @@ use Prim.Native.Nat.{_+_, _-_, _≤_}
 use native.Mathlib.Omega.{arith}
 use lib.ListN.{length, getD, drop}
 use Rattle.table.specs.declared.Verdict.the-variants.{Refused}
-use Rattle.table.specs.Table.{none, refuse, rowRefusal, judgeRows, rowsOf}
+use Rattle.table.specs.Table.{refuse, rowRefusal, judgeRows}
+use Rattle.table.specs.Steps.{none, rowsOf}
 use Rattle.table.proofs.Judging.{judge-here, judge-next, judge-end, rows-long, rows-at}
 use Rattle.table.proofs.judge_rows.Statement.{statement}
 use Rattle.table.proofs.judge_rows.Tie as tie

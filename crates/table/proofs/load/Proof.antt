@@ -50,7 +50,7 @@ use denote.Triple.Walked.{says, Stays, stay-none-slice, walkOf, goes-none-slice,
 use denote.Exit.{yes}
 use Rattle.table.specs.declared.Row.{Row}
 use Rattle.table.specs.declared.Columns.{Columns}
-use Rattle.table.specs.Table.{none, columns}
+use Rattle.table.specs.Steps.{none, columns}
 use Rattle.table.proofs.Element.{elem}
 use Rattle.table.proofs.Held.{values, values-set, values-long, machine, IsColumns, IsRow, columns-stored}
 use Rattle.table.proofs.Rows.{columns-more, columns-all}

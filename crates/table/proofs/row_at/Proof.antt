@@ -38,7 +38,7 @@ use denote.Triple.Table.{entered}
 use denote.Triple.Walked.{says, needs, Stays, stay-none-slice, stay-none, walkOf, goes-none-slice, goes-none, Walks, ends-at, walked, walk-meets}
 use denote.Exit.{yes}
 use Rattle.table.specs.declared.Row.{Row}
-use Rattle.table.specs.Table.{none}
+use Rattle.table.specs.Steps.{none}
 use Rattle.table.proofs.Row as T
 use Rattle.table.proofs.Row.Laws as T′
 use Rattle.table.proofs.row_at.Key.{name as #table·row-at}

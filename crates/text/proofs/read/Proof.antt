@@ -41,7 +41,7 @@ use denote.Triple.Walked.{says, Stays, stay-none-slice, gave-slice, walkOf, goes
 use denote.Exit.{yes}
 use Rattle.table.specs.declared.Row.{Row}
 use Rattle.table.specs.declared.Columns.{Columns}
-use Rattle.table.specs.Table.{listed}
+use Rattle.table.specs.Steps.{listed}
 use Rattle.table.proofs.Row as T
 use Rattle.table.proofs.Row.Laws as T′
 use Rattle.table.proofs.Columns as B

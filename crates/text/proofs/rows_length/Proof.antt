@@ -5,7 +5,7 @@ use Prim.Native.Nat.{_≤_, _-_}
 use native.Mathlib.Omega.{arith}
 use borrow.Author.Needs.{needs}
 use lib.ListN.{length}
-use Rattle.table.specs.Table.{listed}
+use Rattle.table.specs.Steps.{listed}
 use Rattle.text.specs.Text.{rowsText}
 use Rattle.text.specs.Steps.{held}
 use Rattle.text.proofs.Lengths.{rowIn, rows-length-more, rows-most, row-most}

@@ -4,7 +4,7 @@ use mathlib.Core.Path.{_≡_, _∙_, ap}
 use Prim.Native.Nat.{_+_, _≤_}
 use native.Mathlib.Omega.{arith}
 use lib.ListN.{length}
-use Rattle.table.specs.Table.{listed}
+use Rattle.table.specs.Steps.{listed}
 use Rattle.text.specs.declared.Writing.the-variants.{Written}
 use Rattle.text.specs.Text.{nodes-key, rows-key, line, rowsText, textOf}
 use Rattle.text.proofs.Placing.{three-placed}

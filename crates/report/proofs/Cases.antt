@@ -1,0 +1,75 @@
+-- The definitions at work: case B of document 01 as input, and its output byte by byte; and a text and a table that are refused.
+-- Assumes nothing.
+use mathlib.Core.Path.{_≡_, refl}
+use mathlib.Core.Bool.{Bool}
+use mathlib.Core.List.{List, [], _∷_, map}
+use Prim.Native.Nat.{ℕ}
+use lib.Ieee.{div, ofInt}
+use Rattle.lists.specs.Lists.{total, largest}
+use Rattle.ring.specs.Ring.{distance, standing}
+use Rattle.table.specs.Table.{rowRefusal, judgeRows, judge, destinations, dues, distances, lastDue}
+use Rattle.table.specs.Steps.{sources}
+use Rattle.slack.specs.Slack.{underWay, place, slackOf, slack, isLate, lateFrom, lateRow, better, pick, slotOf, moved, stateAt, planOf, deliveredFrom, arrivalsOf, anyUnderWay, stopFrom, stopOf}
+use Rattle.planner.specs.Planner.{ending, thePlan, theArrivals, quotient, summaryOf, theSummary, answerToRows, afterVerdict, theAnswer}
+use Rattle.text.specs.Text.{width, lastDigits, numeral, line, starts, digitsAt, extended, lineValue, lineGood, lineRest, wrongInRow, rowAt, pastRow, wrongLine, rowsAt, nodesIn, rowsIn, bodyOf, readingOfRows, readingOfBody, readingOf, rowsRead}
+use Rattle.text.proofs.Cases.{case-b-text}
+use Rattle.report.specs.Report.{verdictLines, arriveLines, markBefore, parted, sendLine, sendLines, acceptedText, answerText, tableText, readingText, outputOf}
+
+-- What document 01 prints for case B, a line of it in each line here.
+abbrev pub case-b-output : List ℕ
+case-b-output =
+    97 ∷ 110 ∷ 115 ∷ 119 ∷ 101 ∷ 114 ∷ 61 ∷ 48 ∷ 10 ∷
+    114 ∷ 111 ∷ 119 ∷ 61 ∷ 48 ∷ 10 ∷
+    115 ∷ 108 ∷ 111 ∷ 116 ∷ 61 ∷ 48 ∷ 10 ∷
+    108 ∷ 97 ∷ 115 ∷ 116 ∷ 61 ∷ 51 ∷ 10 ∷
+    97 ∷ 114 ∷ 114 ∷ 105 ∷ 118 ∷ 101 ∷ 61 ∷ 50 ∷ 10 ∷
+    97 ∷ 114 ∷ 114 ∷ 105 ∷ 118 ∷ 101 ∷ 61 ∷ 51 ∷ 10 ∷
+    115 ∷ 101 ∷ 110 ∷ 100 ∷ 61 ∷ 50 ∷ 44 ∷ 48 ∷ 44 ∷ 48 ∷ 44 ∷ 48 ∷ 10 ∷
+    115 ∷ 101 ∷ 110 ∷ 100 ∷ 61 ∷ 49 ∷ 44 ∷ 50 ∷ 44 ∷ 48 ∷ 44 ∷ 48 ∷ 10 ∷
+    115 ∷ 101 ∷ 110 ∷ 100 ∷ 61 ∷ 48 ∷ 44 ∷ 48 ∷ 44 ∷ 50 ∷ 44 ∷ 48 ∷ 10 ∷ []
+
+-- Case E, with a row that is late at once: nodes=4, rows=1, src=0, dst=2, due=1.
+abbrev pub case-e-text : List ℕ
+case-e-text =
+    110 ∷ 111 ∷ 100 ∷ 101 ∷ 115 ∷ 61 ∷ 52 ∷ 10 ∷
+    114 ∷ 111 ∷ 119 ∷ 115 ∷ 61 ∷ 49 ∷ 10 ∷
+    115 ∷ 114 ∷ 99 ∷ 61 ∷ 48 ∷ 10 ∷
+    100 ∷ 115 ∷ 116 ∷ 61 ∷ 50 ∷ 10 ∷
+    100 ∷ 117 ∷ 101 ∷ 61 ∷ 49 ∷ 10 ∷ []
+
+-- A text whose line 2 is missing: nodes=4.
+abbrev pub short-text : List ℕ
+short-text = 110 ∷ 111 ∷ 100 ∷ 101 ∷ 115 ∷ 61 ∷ 52 ∷ 10 ∷ []
+
+-- An empty table: nodes=4, rows=0.
+abbrev pub empty-table : List ℕ
+empty-table = 110 ∷ 111 ∷ 100 ∷ 101 ∷ 115 ∷ 61 ∷ 52 ∷ 10 ∷ 114 ∷ 111 ∷ 119 ∷ 115 ∷ 61 ∷ 48 ∷ 10 ∷ []
+
+-- Texts, and what is printed for each: an answer line, a row line and a slot line, and last for the empty table.
+pub record Case : Type 0 where
+  pub text : List ℕ
+  pub output : List ℕ
+
+abbrev pub cases : List Case
+cases =
+    record { text = case-b-text; output = case-b-output } ∷
+    -- answer=9, row=1, slot=0
+    record {
+      text = case-e-text;
+      output = 97 ∷ 110 ∷ 115 ∷ 119 ∷ 101 ∷ 114 ∷ 61 ∷ 57 ∷ 10 ∷ 114 ∷ 111 ∷ 119 ∷ 61 ∷ 49 ∷ 10 ∷ 115 ∷ 108 ∷ 111 ∷ 116 ∷ 61 ∷ 48 ∷ 10 ∷ [];
+    } ∷
+    -- answer=20, row=2, slot=0
+    record {
+      text = short-text;
+      output = 97 ∷ 110 ∷ 115 ∷ 119 ∷ 101 ∷ 114 ∷ 61 ∷ 50 ∷ 48 ∷ 10 ∷ 114 ∷ 111 ∷ 119 ∷ 61 ∷ 50 ∷ 10 ∷ 115 ∷ 108 ∷ 111 ∷ 116 ∷ 61 ∷ 48 ∷ 10 ∷ [];
+    } ∷
+    -- answer=0, row=0, slot=0, last=0
+    record {
+      text = empty-table;
+      output = 97 ∷ 110 ∷ 115 ∷ 119 ∷ 101 ∷ 114 ∷ 61 ∷ 48 ∷ 10 ∷ 114 ∷ 111 ∷ 119 ∷ 61 ∷ 48 ∷ 10 ∷ 115 ∷ 108 ∷ 111 ∷ 116 ∷ 61 ∷ 48 ∷ 10 ∷ 108 ∷ 97 ∷ 115 ∷ 116 ∷ 61 ∷ 48 ∷ 10 ∷ [];
+    } ∷ []
+
+-- Every text comes out so.
+pub printed : map (λ (c : Case). outputOf (c .text)) cases ≡ map (λ (c : Case). c .output) cases
+unfolding total largest distance standing rowRefusal judgeRows judge sources destinations dues distances lastDue underWay place slackOf slack isLate lateFrom lateRow better pick slotOf moved stateAt planOf deliveredFrom arrivalsOf anyUnderWay stopFrom stopOf ending thePlan theArrivals quotient summaryOf theSummary answerToRows afterVerdict theAnswer div ofInt width lastDigits numeral line starts digitsAt extended lineValue lineGood lineRest wrongInRow rowAt pastRow wrongLine rowsAt nodesIn rowsIn bodyOf readingOfRows readingOfBody readingOf rowsRead verdictLines arriveLines markBefore parted sendLine sendLines acceptedText answerText tableText readingText outputOf
+printed = refl

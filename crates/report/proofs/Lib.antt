@@ -1,0 +1,9 @@
+pub mod Putting
+pub mod Lines
+mod Sending
+mod Verdict
+pub mod Sizes
+pub mod Accepting
+pub mod Responding
+pub mod Cases
+pub mod Shape

@@ -1,0 +1,69 @@
+-- `report::put_arrives` meets its contract: after i turns the first i lines stand at their place.
+-- Assumes nothing.
+use mathlib.Core.Path.{refl}
+use Prim.Native.Nat.{_+_, _-_, _≤_}
+use native.Mathlib.Omega.{arith}
+use lib.ListN.{length, getD, drop}
+use Rattle.text.specs.Text.{line}
+use Rattle.report.specs.Report.{arrive-key, arriveLines}
+use Rattle.report.proofs.Putting.{Putting, begun, as-long, fits, put-on, one-put, all-put}
+use Rattle.report.proofs.Lines.{next-arrive, no-arrive}
+use borrow.Author.Needs.{needs}
+use Rattle.report.proofs.put_arrives.Statement.{statement}
+use Rattle.report.proofs.put_arrives.Tie as tie
+use Rattle.report.proofs.put_arrives.Reads as reads
+use Rattle.report.proofs.put_arrives.Lts as lts
+use Rattle.text.proofs.put_line.Reads as put-line-reads
+
+abbrev Inv-loop : tie.InvT-loop
+Inv-loop area₀ from arrivals at₀ i₀ t6 area at i = (i ≤ length arrivals) × Putting area₀ from (arriveLines arrivals) area at (arriveLines (drop i arrivals))
+
+abbrev μ-loop : tie.MeasureT-loop
+μ-loop area₀ from arrivals at₀ i₀ t6 area at i = length arrivals - i
+
+loop-holds : tie.Need-loop-holds Inv-loop μ-loop
+loop-holds c = (omega arith, begun (c .before .before .args .area .now) (c .before .before .args .from) (arriveLines (c .before .before .args .arrivals .now)) (arriveLines (c .before .before .args .arrivals .now)) (c .before .before .pre) refl)
+
+slice-aggregate-put-line : tie.Need-slice-aggregate-put-line Inv-loop μ-loop
+slice-aggregate-put-line c = search needs
+
+mul-put-line : tie.Need-mul-put-line Inv-loop μ-loop
+mul-put-line c = search needs
+
+shared-slice-read-put-line : tie.Need-shared-slice-read-put-line Inv-loop μ-loop
+shared-slice-read-put-line c = search needs
+
+put-line-requires : tie.Need-put-line-requires Inv-loop μ-loop
+put-line-requires c κs = (fits (c .before .before .before .before .loop .inv .1) (line arrive-key (getD (c .before .before .before .before .before .before .before .args .arrivals .now) (c .before .before .before .before .loop .i) 0)) (arriveLines (drop (c .before .before .before .before .loop .i + 1) (c .before .before .before .before .before .before .before .args .arrivals .now))) (next-arrive (c .before .before .before .before .before .before .before .args .arrivals .now) (c .before .before .before .before .loop .i) (c .before .before .before .loop-test .taken)), omega arith)
+
+add-i : tie.Need-add-i Inv-loop μ-loop
+add-i c = search needs
+
+loop-less : tie.Need-loop-less Inv-loop μ-loop
+loop-less c = search needs
+
+loop-again : tie.Need-loop-again Inv-loop μ-loop
+loop-again c = (omega arith, put-on (c .before .before .before .before .before .before .before .loop .inv .1) (line arrive-key (getD (c .before .before .before .before .before .before .before .before .before .before .args .arrivals .now) (c .before .before .before .before .before .before .before .loop .i) 0)) (arriveLines (drop (c .before .before .before .before .before .before .before .loop .i + 1) (c .before .before .before .before .before .before .before .before .before .before .args .arrivals .now))) (next-arrive (c .before .before .before .before .before .before .before .before .before .before .args .arrivals .now) (c .before .before .before .before .before .before .before .loop .i) (c .before .before .before .before .before .before .loop-test .taken)) (c .before .before .put-line .result) (c .before .before .put-line .last .0) (one-put (c .before .before .put-line .ensures)))
+
+same-length : tie.Need-same-length Inv-loop μ-loop
+same-length c = as-long (c .before .loop .inv .1)
+
+returns : tie.Need-returns Inv-loop μ-loop
+returns c = all-put (c .before .loop .inv .1) (no-arrive (c .before .before .before .before .args .arrivals .now) (c .before .loop .i) (c .loop-test .left))
+
+pub put-arrives-spec : {M : Type 1} → statement M
+put-arrives-spec =
+    tie.close
+    (tie.spec
+    Inv-loop
+    μ-loop
+    loop-holds
+    slice-aggregate-put-line
+    mul-put-line
+    shared-slice-read-put-line
+    put-line-requires
+    add-i
+    loop-less
+    loop-again
+    same-length
+    returns)

@@ -1,0 +1,47 @@
+-- `report::put_verdict` meets its contract: three lines, one behind the other.
+-- Assumes nothing.
+use native.Mathlib.Omega.{arith}
+use Rattle.report.proofs.Verdict.{answer-fits, row-fits, slot-fits, verdict-put}
+use borrow.Author.Needs.{needs}
+use Rattle.report.proofs.put_verdict.Statement.{statement}
+use Rattle.report.proofs.put_verdict.Tie as tie
+use Rattle.report.proofs.put_verdict.Reads as reads
+use Rattle.report.proofs.put_verdict.Lts as lts
+use Rattle.text.proofs.put_line.Reads as put-line-reads
+
+slice-aggregate-put-line : tie.Need-slice-aggregate-put-line
+slice-aggregate-put-line c = search needs
+
+put-line-requires : tie.Need-put-line-requires
+put-line-requires c κs = (answer-fits (c .before .before .before .before .args .area .now) (c .before .before .before .before .args .refusal) (c .before .before .before .before .pre), omega arith)
+
+slice-aggregate-put-line-2 : tie.Need-slice-aggregate-put-line-2
+slice-aggregate-put-line-2 c = search needs
+
+put-line-requires-2 : tie.Need-put-line-requires-2
+put-line-requires-2 c κs = (row-fits (c .before .before .before .before .before .before .before .before .before .args .area .now) (c .before .before .before .before .before .before .before .before .before .args .refusal) (c .before .before .before .before .before .before .before .before .before .pre) (c .before .before .before .before .put-line .result) (c .before .before .before .before .put-line .last .0) (c .before .before .before .before .put-line .ensures), omega arith)
+
+slice-aggregate-put-line-3 : tie.Need-slice-aggregate-put-line-3
+slice-aggregate-put-line-3 c = search needs
+
+put-line-requires-3 : tie.Need-put-line-requires-3
+put-line-requires-3 c κs = (slot-fits (c .before .before .before .before .before .before .before .before .before .before .before .before .before .before .args .area .now) (c .before .before .before .before .before .before .before .before .before .before .before .before .before .before .args .refusal) (c .before .before .before .before .before .before .before .before .before .before .before .before .before .before .pre) (c .before .before .before .before .before .before .before .before .before .put-line .result) (c .before .before .before .before .before .before .before .before .before .put-line .last .0) (c .before .before .before .before .before .before .before .before .before .put-line .ensures) (c .before .before .before .before .put-line2 .result) (c .before .before .before .before .put-line2 .last .0) (c .before .before .before .before .put-line2 .ensures), omega arith)
+
+same-length : tie.Need-same-length
+same-length c = search needs
+
+returns : tie.Need-returns
+returns c = verdict-put (c .before .before .before .before .before .before .before .before .before .before .before .before .before .before .before .before .before .args .area .now) (c .before .before .before .before .before .before .before .before .before .before .before .before .before .before .before .before .before .args .refusal) (c .before .before .before .before .before .before .before .before .before .before .before .before .before .before .before .before .before .pre) (c .before .before .before .before .before .before .before .before .before .before .before .before .put-line .result) (c .before .before .before .before .before .before .before .before .before .before .before .before .put-line .last .0) (c .before .before .before .before .before .before .before .before .before .before .before .before .put-line .ensures) (c .before .before .before .before .before .before .before .put-line2 .result) (c .before .before .before .before .before .before .before .put-line2 .last .0) (c .before .before .before .before .before .before .before .put-line2 .ensures) (c .before .before .put-line3 .result) (c .before .before .put-line3 .last .0) (c .before .before .put-line3 .ensures)
+
+pub put-verdict-spec : {M : Type 1} → statement M
+put-verdict-spec =
+    tie.close
+    (tie.spec
+    slice-aggregate-put-line
+    put-line-requires
+    slice-aggregate-put-line-2
+    put-line-requires-2
+    slice-aggregate-put-line-3
+    put-line-requires-3
+    same-length
+    returns)

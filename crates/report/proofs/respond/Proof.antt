@@ -1,0 +1,54 @@
+-- `report::respond` meets its contract: a text that is not read gets its three lines, and a table what is printed for it.
+-- Assumes nothing.
+use Rattle.table.specs.Steps.{listed}
+use Rattle.report.proofs.Accepting.{verdict-fits}
+use Rattle.report.proofs.Responding.{not-read, read}
+use borrow.Author.Needs.{needs}
+use Rattle.report.proofs.respond.Statement.{statement}
+use Rattle.report.proofs.respond.Tie as tie
+use Rattle.report.proofs.respond.Reads as reads
+use Rattle.report.proofs.respond.Lts as lts
+use Rattle.report.proofs.put_verdict.Reads as put-verdict-reads
+use Rattle.report.proofs.respond_table.Reads as respond-table-reads
+use Rattle.text.proofs.parse.Reads as parse-reads
+
+parse-requires : tie.Need-parse-requires
+parse-requires c κs = search needs
+
+enum-known-reading : tie.Need-enum-known-reading
+enum-known-reading c = search needs
+
+put-verdict-requires : tie.Need-put-verdict-requires
+put-verdict-requires c κs = verdict-fits (c .before .before .before .before .before .before .before .before .args .area .now) (c .before .before .reading .given .0 .0) (c .before .before .before .before .before .before .before .before .pre)
+
+enum-known-reading-2 : tie.Need-enum-known-reading-2
+enum-known-reading-2 c = search needs
+
+respond-table-requires : tie.Need-respond-table-requires
+respond-table-requires c κs = search needs
+
+same-length : tie.Need-same-length
+same-length c = search needs
+
+returns : tie.Need-returns
+returns c = not-read (c .before .before .before .before .before .before .before .before .before .before .before .args .text .now) (c .before .before .before .before .before .before .before .before .before .before .before .args .area .now) (c .before .before .put-verdict .result) (c .before .before .put-verdict .last .0) (c .before .before .before .before .before .before .before .before .parse .result .reading) (c .before .before .before .before .before .before .before .before .parse .ensures .judged) (c .before .before .before .before .before .reading .given .0 .0) (c .before .before .before .before .before .reading .given .1) (c .before .before .put-verdict .ensures)
+
+same-length-2 : tie.Need-same-length-2
+same-length-2 c = search needs
+
+returns-2 : tie.Need-returns-2
+returns-2 c = read (c .before .before .before .before .before .before .before .before .before .before .before .args .text .now) (c .before .before .before .before .before .before .before .before .before .before .before .args .area .now) (c .before .before .respond-table .result) (c .before .before .respond-table .last .1 .1 .1 .0) (c .before .before .before .before .before .before .before .before .parse .result .reading) (c .before .before .before .before .before .before .before .before .parse .ensures .judged) (c .before .before .before .before .before .reading2 .given .0 .0) (c .before .before .before .before .before .reading2 .given .1) (listed (c .before .before .before .before .before .before .before .before .parse .result .rows) (c .before .before .before .before .before .before .before .before .parse .result .columns)) (c .before .before .before .before .before .before .before .before .parse .ensures .rows) (c .before .before .respond-table .ensures)
+
+pub respond-spec : {M : Type 1} → statement M
+respond-spec =
+    tie.close
+    (tie.spec
+    parse-requires
+    enum-known-reading
+    put-verdict-requires
+    enum-known-reading-2
+    respond-table-requires
+    same-length
+    returns
+    same-length-2
+    returns-2)
