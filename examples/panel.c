@@ -1,10 +1,13 @@
-/* An operator's path: enter a table, plan it, look at the plan; then meet a refusal, mend it, and meet a late table. */
+/* An operator's path: enter a table, plan it, look at the plan; then meet a refusal, mend it, and meet a late table; then
+   keep the table as text, read it back, and meet a wrong line. */
 #include "garboardle.h"
 
 #include <stdio.h>
 
 static uint16_t plan[GARBOARDLE_MOST_ENTRIES];
 static uint16_t arrivals[GARBOARDLE_MOST_ARRIVALS];
+static struct garboardle_row kept[GARBOARDLE_MOST_ROWS];
+static uint8_t text[GARBOARDLE_LONGEST_TEXT];
 
 /* The length of an array. */
 #define LENGTH(a) (sizeof(a) / sizeof((a)[0]))
@@ -20,6 +23,9 @@ static const char *const words[] = {
     "plan area too short",
     "arrivals area too short",
     "late",
+    [20] = "wrong line",
+    [21] = "list too short",
+    [22] = "area too short",
 };
 
 static unsigned largest_due(const struct garboardle_row *rows, size_t count)
@@ -60,6 +66,34 @@ static void operate(const char *what, uint16_t nodes, const struct garboardle_ro
            (unsigned long)a.sum, a.mean, a.share);
 }
 
+/* Reads a text of that length, and plans the table that it holds. */
+static void reread(const char *what, size_t length)
+{
+    struct garboardle_read_answer a = garboardle_read(text, length, kept, LENGTH(kept));
+    printf("%s: answer %u (%s), line %u\n", what, (unsigned)a.number, words[a.number], (unsigned)a.line);
+    if (a.number == 0)
+        operate("of the text", a.nodes, kept, a.rows);
+}
+
+/* Writes a table as text and reads it back: whole, without the last line feed, with a letter for a zero, and into too
+   short a list. */
+static void keep(uint16_t nodes, const struct garboardle_row *rows, size_t count)
+{
+    struct garboardle_write_answer w = garboardle_write(nodes, rows, count, text, LENGTH(text));
+    printf("written: answer %u (%s), %zu bytes\n", (unsigned)w.number, words[w.number], w.length);
+    fwrite(text, 1, w.length, stdout);
+
+    reread("read back", w.length);
+    reread("cut short", w.length - 1);
+    text[19] = 'O';
+    reread("mistyped", w.length);
+
+    struct garboardle_read_answer r = garboardle_read(text, w.length, kept, 1);
+    printf("1 record lent, 2 needed: answer %u (%s)\n", (unsigned)r.number, words[r.number]);
+    w = garboardle_write(nodes, rows, count, text, 50);
+    printf("50 bytes lent, 51 needed: answer %u (%s)\n", (unsigned)w.number, words[w.number]);
+}
+
 int main(void)
 {
     struct garboardle_row table[] = {{0, 1, 2}, {0, 3, 3}};
@@ -77,5 +111,8 @@ int main(void)
 
     struct garboardle_answer a = garboardle_plan(4, table, LENGTH(table), plan, 11, arrivals, LENGTH(arrivals));
     printf("11 entries lent, 12 needed: answer %u (%s)\n", (unsigned)a.number, words[a.number]);
+
+    table[0].due = 4;
+    keep(4, table, LENGTH(table));
     return 0;
 }

@@ -1,5 +1,5 @@
-/* Plans a slotted ring: which message each link carries in each slot, so that every message is in time.
-   Link with libpanel.a (docs/PANEL.md says how to build it). */
+/* Plans a slotted ring: which message each link carries in each slot, so that every message is in time; reads and writes
+   its table as text. Link with libpanel.a (docs/PANEL.md says how to build it). */
 #ifndef GARBOARDLE_H
 #define GARBOARDLE_H
 
@@ -17,6 +17,7 @@ extern "C" {
 /* Areas of these lengths are long enough for every table. */
 #define GARBOARDLE_MOST_ENTRIES (GARBOARDLE_MOST_NODES * GARBOARDLE_LATEST_DUE)
 #define GARBOARDLE_MOST_ARRIVALS GARBOARDLE_MOST_ROWS
+#define GARBOARDLE_LONGEST_TEXT 15381
 
 /* One message: from node src to node dst, there at instant due or before. Rows are numbered from 1, in list order. */
 struct garboardle_row {
@@ -62,6 +63,48 @@ struct garboardle_answer {
    No entry past those needed is touched. */
 struct garboardle_answer garboardle_plan(uint16_t nodes, const struct garboardle_row *rows, size_t rows_len,
                                          uint16_t *plan, size_t plan_len, uint16_t *arrivals, size_t arrivals_len);
+
+/* A table as text is lines of key=value: nodes, rows, then src, dst and due for each row. Each is the key, an equals sign,
+   a decimal numeral of 0 to 65535 with no leading zero, and one line feed. Nothing follows the last line.
+
+   number  given when                                                          line
+   2       more than 512 rows                                                  0
+   20      a line is wrong or missing, or bytes follow the last                line
+   21      lent list shorter than the rows (reading)                           0
+   22      lent area too short (writing)                                       0
+
+   The reader judges the lines in order, numbered from 1, and gives 2, then 21, directly after line 2. The writer gives 2,
+   then 22. Neither judges the number of nodes or the rows' values: garboardle_plan does. */
+
+/* The reader's answer. Read: number and line are 0. Refused: nodes and rows are 0. */
+struct garboardle_read_answer {
+    uint16_t number;
+    uint16_t line;
+    uint16_t nodes;
+    uint16_t rows;
+};
+
+/* The writer's answer. Written: number is 0, and length is that of the text. Refused: length is 0. */
+struct garboardle_write_answer {
+    uint16_t number;
+    size_t length;
+};
+
+/* Reads the table that a text holds: a right text fills as many of the lent rows as it has, a refused one none, and no
+   other row is touched.
+
+   The caller lends both lists for the call, and nothing is kept of them after it: text is read; rows are written. Neither
+   is null, not even with length 0, and they do not overlap. */
+struct garboardle_read_answer garboardle_read(const uint8_t *text, size_t text_len, struct garboardle_row *rows,
+                                              size_t rows_len);
+
+/* Writes the one text of a table, which garboardle_read reads back as the same nodes and rows, into the front of the
+   area; a refusal writes nothing, and no byte past the text is touched.
+
+   The caller lends both lists for the call, and nothing is kept of them after it: rows are read; area is written. Neither
+   is null, not even with length 0, and they do not overlap. */
+struct garboardle_write_answer garboardle_write(uint16_t nodes, const struct garboardle_row *rows, size_t rows_len,
+                                                uint8_t *area, size_t area_len);
 
 #ifdef __cplusplus
 }

@@ -15,6 +15,9 @@ gcc -std=c11 $warnings -fsyntax-only -Iinclude -x c - << 'END'
 _Static_assert(sizeof(struct garboardle_row) == 6 && sizeof(struct garboardle_answer) == 32, "sizes");
 _Static_assert(offsetof(struct garboardle_answer, last) == 6 && offsetof(struct garboardle_answer, sum) == 12, "numbers");
 _Static_assert(offsetof(struct garboardle_answer, mean) == 16 && offsetof(struct garboardle_answer, share) == 24, "floats");
+_Static_assert(sizeof(struct garboardle_read_answer) == 8 && sizeof(struct garboardle_write_answer) == 16, "sizes");
+_Static_assert(offsetof(struct garboardle_read_answer, line) == 2 && offsetof(struct garboardle_read_answer, nodes) == 4, "reading");
+_Static_assert(offsetof(struct garboardle_read_answer, rows) == 6 && offsetof(struct garboardle_write_answer, length) == 8, "writing");
 END
 gcc -std=c99 $warnings -O2 -Iinclude examples/panel.c "$archive" -o "$out/panel"
 "$out/panel" > "$out/panel.out"

@@ -7,3 +7,5 @@ pub mod model;
 pub mod panel;
 pub mod random;
 pub mod search;
+pub mod text;
+pub mod texts;

@@ -40,6 +40,22 @@ impl PartialEq for Answer {
     }
 }
 
+#[repr(C)]
+#[derive(Clone, Copy, Debug, Default, PartialEq, Eq)]
+pub struct ReadAnswer {
+    pub number: u16,
+    pub line: u16,
+    pub nodes: u16,
+    pub rows: u16,
+}
+
+#[repr(C)]
+#[derive(Clone, Copy, Debug, Default, PartialEq, Eq)]
+pub struct WriteAnswer {
+    pub number: u16,
+    pub length: usize,
+}
+
 extern "C" {
     pub fn garboardle_plan(
         nodes: u16,
@@ -50,6 +66,21 @@ extern "C" {
         arrivals: *mut u16,
         arrivals_len: usize,
     ) -> Answer;
+
+    pub fn garboardle_read(
+        text: *const u8,
+        text_len: usize,
+        rows: *mut Row,
+        rows_len: usize,
+    ) -> ReadAnswer;
+
+    pub fn garboardle_write(
+        nodes: u16,
+        rows: *const Row,
+        rows_len: usize,
+        area: *mut u8,
+        area_len: usize,
+    ) -> WriteAnswer;
 }
 
 pub fn plan(nodes: u16, rows: &[Row], plan: &mut [u16], arrivals: &mut [u16]) -> Answer {
@@ -63,6 +94,24 @@ pub fn plan(nodes: u16, rows: &[Row], plan: &mut [u16], arrivals: &mut [u16]) ->
             plan.len(),
             arrivals.as_mut_ptr(),
             arrivals.len(),
+        )
+    }
+}
+
+pub fn read(text: &[u8], rows: &mut [Row]) -> ReadAnswer {
+    // Safe: the function asks nothing but two slices that do not overlap, and borrows them for the call alone.
+    unsafe { garboardle_read(text.as_ptr(), text.len(), rows.as_mut_ptr(), rows.len()) }
+}
+
+pub fn write(nodes: u16, rows: &[Row], area: &mut [u8]) -> WriteAnswer {
+    // Safe: the function asks nothing but two slices that do not overlap, and borrows them for the call alone.
+    unsafe {
+        garboardle_write(
+            nodes,
+            rows.as_ptr(),
+            rows.len(),
+            area.as_mut_ptr(),
+            area.len(),
         )
     }
 }

@@ -1,5 +1,7 @@
 //! Random numbers from a seed (splitmix64).
 
+use crate::panel::Row;
+
 pub struct Random(u64);
 
 impl Random {
@@ -31,5 +33,33 @@ impl Random {
 
     pub fn pattern(&mut self, len: usize) -> Vec<u16> {
         (0..len).map(|_| self.word() as u16).collect()
+    }
+
+    /// A number of 16 bits with 1 to 5 digits, each count about as often.
+    pub fn numeral(&mut self) -> u16 {
+        let most = [9, 99, 999, 9_999, 65_535][self.within(0, 4)];
+        let edge = self.once_in(8);
+        if edge {
+            most
+        } else {
+            self.within(0, most as usize) as u16
+        }
+    }
+
+    pub fn bytes(&mut self, len: usize) -> Vec<u8> {
+        (0..len).map(|_| self.word() as u8).collect()
+    }
+
+    pub fn records(&mut self, len: usize) -> Vec<Row> {
+        (0..len)
+            .map(|_| {
+                let word = self.word();
+                Row {
+                    src: word as u16,
+                    dst: (word >> 16) as u16,
+                    due: (word >> 32) as u16,
+                }
+            })
+            .collect()
     }
 }

@@ -5,6 +5,8 @@ use panel_tests::cases::{each, large_table, Dues, UNDER_TEST};
 use panel_tests::model;
 use panel_tests::panel::{self, Row};
 use panel_tests::random::Random;
+use panel_tests::text;
+use panel_tests::texts::{any_table, any_text};
 use std::ffi::c_void;
 use std::io::Write;
 use std::sync::atomic::Ordering;
@@ -136,6 +138,40 @@ fn guarded(random: &mut Random) -> Result<&'static str, String> {
     Ok(["accepted", "1", "2", "3", "4", "5", "6", "7", "8", "9"][answer.number as usize])
 }
 
+fn guarded_reading(random: &mut Random) -> Result<&'static str, String> {
+    let (bytes, lent) = any_text(random);
+    let mut rows = random.records(lent);
+    let mut lent_bytes = Guarded::new(&bytes, random.once_in(2));
+    let mut lent_rows = Guarded::new(&rows, random.once_in(2));
+    let answer = panel::read(lent_bytes.entries(), lent_rows.entries());
+    let expected = text::read(&bytes, &mut rows);
+    if answer != expected || lent_rows.entries() != rows || lent_bytes.entries() != bytes {
+        return Err(format!("answers {answer:?}, and the model {expected:?}"));
+    }
+    Ok(if answer.number == 0 {
+        "read"
+    } else {
+        "not read"
+    })
+}
+
+fn guarded_writing(random: &mut Random) -> Result<&'static str, String> {
+    let (nodes, rows, _, room) = any_table(random);
+    let mut area = random.bytes(room);
+    let mut lent_rows = Guarded::new(&rows, random.once_in(2));
+    let mut lent_area = Guarded::new(&area, random.once_in(2));
+    let answer = panel::write(nodes, lent_rows.entries(), lent_area.entries());
+    let expected = text::write(nodes, &rows, &mut area);
+    if answer != expected || lent_area.entries() != area || lent_rows.entries() != rows {
+        return Err(format!("answers {answer:?}, and the model {expected:?}"));
+    }
+    Ok(if answer.number == 0 {
+        "written"
+    } else {
+        "not written"
+    })
+}
+
 /// A touch of a guarded page: says which table it was, and ends the process.
 extern "C" fn touched(_: i32) {
     let mut line = [0; 160];
@@ -153,4 +189,6 @@ extern "C" fn touched(_: i32) {
 fn nothing_past_the_lent_lists() {
     unsafe { signal(SIGSEGV, touched) };
     each("guarded", guarded, 3_000_000, 1_500);
+    each("guarded", guarded_reading, 6_000_000, 3_000);
+    each("guarded", guarded_writing, 7_000_000, 3_000);
 }

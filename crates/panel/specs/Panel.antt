@@ -1,14 +1,22 @@
 -- What the panel's functions give: the proved entry points' outcomes, with answers as plain numbers.
 use Prim.Native.Nat.{ℕ}
 use mathlib.Core.Path.{_≡_}
-use mathlib.Core.List.{List}
+use mathlib.Core.List.{List, _++_}
 use lib.Ieee.{binary64, ofBits}
-use lib.ListN.{length}
+use lib.ListN.{length, drop}
 use Rattle.table.specs.declared.Row.{Row}
 use Rattle.planner.specs.declared.Answer.{Answer}
 use Rattle.planner.specs.declared.Answer.the-variants.{Accepted, Refused}
 use Rattle.planner.specs.Planner.{theAnswer, areaAfter, thePlan, theArrivals}
+use Rattle.text.specs.declared.Reading.{Reading}
+use Rattle.text.specs.declared.Reading.the-variants.{Read, Refused as NotRead}
+use Rattle.text.specs.declared.Writing.{Writing}
+use Rattle.text.specs.declared.Writing.the-variants.{Written, Refused as NotWritten}
+use Rattle.text.specs.Text as Text
+use Rattle.text.specs.Text.{readingOf, rowsRead, writingOf}
 use Rattle.panel.specs.declared.PlanAnswer.{PlanAnswer}
+use Rattle.panel.specs.declared.ReadAnswer.{ReadAnswer}
+use Rattle.panel.specs.declared.WriteAnswer.{WriteAnswer}
 
 -- An answer as plain numbers: an acceptance has number, row and slot 0, and a refusal has every figure 0.
 unfoldable pub flatOf : Answer → PlanAnswer
@@ -31,3 +39,23 @@ pub record PanelPlanned (n : ℕ) (rows : List Row) (plan arrivals : List ℕ) (
   pub answers : r ≡ flatOf (theAnswer n rows (length plan) (length arrivals))
   pub fills-plan : plan′ ≡ areaAfter (theAnswer n rows (length plan) (length arrivals)) (thePlan n rows) plan
   pub fills-arrivals : arrivals′ ≡ areaAfter (theAnswer n rows (length plan) (length arrivals)) (theArrivals n rows) arrivals
+
+-- What reading comes to as plain numbers: a text that was read has number and line 0, and a refusal has nodes and rows 0, and as its line what it names.
+unfoldable pub flatReading : Reading → ReadAnswer
+flatReading (Read h) = record { number = 0; line = 0; nodes = h .nodes; rows = h .rows }
+flatReading (NotRead r) = record { number = r .number; line = r .row; nodes = 0; rows = 0 }
+
+-- What writing comes to as plain numbers: a text that was written has number 0, and a refusal has length 0.
+unfoldable pub flatWriting : Writing → WriteAnswer
+flatWriting (Written k) = record { number = 0; length = k }
+flatWriting (NotWritten r) = record { number = r .number; length = 0 }
+
+-- The full outcome of reading from the panel: the flattened reading, and every lent row: those of the text in front, and behind them what stood there. A refused reading gives no rows.
+pub record PanelRead (text : List ℕ) (rows : List Row) (r : ReadAnswer) (rows′ : List Row) : Type 0 where
+  pub answers : r ≡ flatReading (readingOf text (length rows))
+  pub fills : rows′ ≡ rowsRead text (length rows) ++ drop (length (rowsRead text (length rows))) rows
+
+-- The full outcome of writing from the panel: the flattened writing, and every byte of the lent area.
+pub record PanelWritten (n : ℕ) (rows : List Row) (area : List ℕ) (r : WriteAnswer) (area′ : List ℕ) : Type 0 where
+  pub answers : r ≡ flatWriting (writingOf n rows (length area))
+  pub fills : area′ ≡ Text.areaAfter n rows area

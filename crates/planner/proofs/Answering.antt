@@ -1,17 +1,17 @@
 -- The answer to a run, from how it ended: acceptance with the run's figures, or the late row.
 -- Assumes nothing.
-use mathlib.Core.Path.{_≡_, refl, _∙_, ap, sym}
-use Prim.Native.Nat.{ℕ, _*_, _≤_}
-use mathlib.Core.Bool.{true, false, cond}
+use mathlib.Core.Path.{_≡_, _∙_, ap}
+use Prim.Native.Nat.{ℕ, _*_}
+use mathlib.Core.Bool.{cond}
 use mathlib.Core.List.{List}
-use borrow.Author.Tests.{eq-eqb, ne-eqb}
+use borrow.Author.Tests.{ne-eqb}
 use lib.Dec.{eqb}
 use lib.ListN.{length, replicate}
-use Rattle.lists.specs.Lists.{build, total, largest}
+use Rattle.lists.specs.Lists.{total, largest}
 use Rattle.lists.proofs.Build.{length-build}
 use Rattle.table.specs.Table.{refuse}
 use Rattle.slack.specs.declared.Stop.{Stop}
-use Rattle.slack.specs.Slack.{Traffic, planOf, arrivalsOf, stopOf}
+use Rattle.slack.specs.Slack.{Traffic, planOf, arrivalsOf}
 use Rattle.slack.specs.Steps.{Ran}
 use Rattle.planner.specs.declared.Summary.{Summary}
 use Rattle.planner.specs.declared.Answer.the-variants.{Accepted, Refused}

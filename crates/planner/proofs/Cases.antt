@@ -3,12 +3,12 @@
 -- Assumes nothing.
 use mathlib.Core.Path.{_≡_, refl}
 use Prim.Native.Nat.{ℕ}
-use mathlib.Core.Bool.{Bool, true, false, cond}
+use mathlib.Core.Bool.{Bool, true, false}
 use mathlib.Core.List.{List, [], _∷_, map}
 use lib.Dec.{eqb}
 use lib.IntN.{pos, negsuc}
 use lib.Ieee.{Float, fin, binary64, div, ofInt, ofBits}
-use lib.ListN.{length, replicate}
+use lib.ListN.{replicate}
 use Rattle.lists.specs.Lists.{total, largest}
 use Rattle.ring.specs.Ring.{distance, standing}
 use Rattle.table.specs.declared.Row.{Row}
@@ -17,7 +17,7 @@ use Rattle.table.specs.Steps.{sources}
 use Rattle.slack.specs.Slack.{underWay, place, slackOf, slack, isLate, lateFrom, lateRow, better, pick, slotOf, moved, stateAt, planOf, deliveredFrom, arrivalsOf, anyUnderWay, stopFrom, stopOf}
 use Rattle.planner.specs.declared.Answer.{Answer}
 use Rattle.planner.specs.declared.Answer.the-variants.{Accepted, Refused}
-use Rattle.planner.specs.Planner.{ending, thePlan, theArrivals, quotient, summaryOf, theSummary, answerToRows, afterVerdict, theAnswer, numberOf, areaAfter}
+use Rattle.planner.specs.Planner.{ending, thePlan, theArrivals, quotient, summaryOf, theSummary, answerToRows, afterVerdict, theAnswer, areaAfter}
 
 -- A row as document 01 writes it: source, destination, due slot.
 row : ℕ → ℕ → ℕ → Row

@@ -1,33 +1,32 @@
 -- A well-formed table on plain numbers: its run can be planned, and what planning it leaves is what is promised.
 -- Assumes nothing.
 use mathlib.Core.Path.{_≡_, refl, _∙_, ap, sym}
-use Prim.Native.Nat.{ℕ, zero, suc, _+_, _*_, _≤_, _<_, _^_}
+use Prim.Native.Nat.{ℕ, _*_, _≤_, _<_}
 use native.Mathlib.Nat.{mul-le-mul, mul-comm}
 use native.Mathlib.Omega.{arith}
 use mathlib.Core.Bool.{Bool, true, false, cond}
 use mathlib.Core.List.{List, _++_}
 use borrow.Author.Tests.{lt-ltb, le-ltb}
-use lib.Dec.{eqb, ltb}
+use lib.Dec.{eqb}
 use lib.ListN.{length, getD, take, drop, replicate, length-replicate, length-append}
 use lib.Seq.{take-at, length-take-le}
-use Rattle.lists.specs.Lists.{build, total, largest}
+use Rattle.lists.specs.Lists.{build, largest}
 use Rattle.lists.proofs.Build.{length-build, getD-build}
 use Rattle.lists.proofs.Figures.{largest-below}
 use Rattle.ring.specs.Ring.{distance}
 use Rattle.ring.proofs.Turn.{apart, within-turn}
 use Rattle.table.specs.declared.Row.{Row}
 use Rattle.table.specs.declared.Verdict.the-variants.{Good}
-use Rattle.table.specs.Table.{judgeRows, refuse, destinations, dues, distances, lastDue}
-use Rattle.table.specs.Steps.{rowsOf, SameRows, Measuring}
+use Rattle.table.specs.Table.{judgeRows, refuse, distances, lastDue}
+use Rattle.table.specs.Steps.{rowsOf, Measuring}
 use Rattle.table.proofs.Judging.{GoodRow, good-rows, rows-long, rows-at, its-destinations, its-dues, its-distances}
-use Rattle.slack.specs.declared.Stop.{Stop}
-use Rattle.slack.specs.Slack.{Traffic, traffic, OnRing, planOf, arrivalsOf, stopOf}
+use Rattle.slack.specs.Slack.{traffic, OnRing, planOf, arrivalsOf, stopOf}
 use Rattle.slack.proofs.Walking.{plan-length}
-use Rattle.slack.specs.Steps.{Ready, AllUnderWay}
+use Rattle.slack.specs.Steps.{AllUnderWay}
 use Rattle.planner.specs.declared.Answer.{Answer}
 use Rattle.planner.specs.declared.Summary.{Summary}
 use Rattle.planner.specs.declared.Answer.the-variants.{Accepted, Refused}
-use Rattle.planner.specs.Planner.{trafficOf, ending, thePlan, theArrivals, theSummary, summaryOf, answerToRows, areaAfter}
+use Rattle.planner.specs.Planner.{trafficOf, ending, thePlan, theArrivals, theSummary, answerToRows, areaAfter}
 use Rattle.planner.specs.Steps.{Runnable, RunPlanned, answerToRun, Tabled, GoodPlanned}
 use Rattle.planner.proofs.Answering.{arrivals-long}
 

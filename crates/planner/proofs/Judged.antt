@@ -3,27 +3,25 @@
 --     turned-away                              a refusal before 7: the areas are left as they were
 --     let-through                              a well-formed table
 -- Assumes nothing.
-use mathlib.Core.Path.{_≡_, refl, _∙_, ap, sym}
+use mathlib.Core.Path.{_≡_, refl, _∙_, sym}
 use Prim.Native.Nat.{ℕ, _≤_, _<_}
 use native.Mathlib.Omega.{arith}
 use mathlib.Core.Bool.{Bool, true, false, cond, _||_, or-true}
 use mathlib.Core.List.{List}
 use borrow.Author.Tests.{lt-ltb, le-ltb, ltb-false, ne-eqb}
 use lib.Dec.{ltb}
-use lib.ListN.{length, getD, take}
+use lib.ListN.{length, take}
 use lib.Seq.{getD-take, length-take-le}
-use Rattle.lists.specs.Lists.{build}
 use Rattle.lists.proofs.Build.{build-ext}
 use Rattle.table.specs.declared.Row.{Row}
 use Rattle.table.specs.declared.Columns.{Columns}
 use Rattle.table.specs.declared.Refusal.{Refusal}
-use Rattle.table.specs.declared.Verdict.{Verdict}
 use Rattle.table.specs.declared.Verdict.the-variants as verdict
 use Rattle.table.specs.Table.{judge, judgeRows, WellFormed, refuse}
 use Rattle.table.specs.Steps.{listed, rowsOf}
 use Rattle.planner.specs.declared.Answer.{Answer}
 use Rattle.planner.specs.declared.Answer.the-variants.{Refused}
-use Rattle.planner.specs.Planner.{Planned, theAnswer, answerToRows, afterVerdict, areaAfter}
+use Rattle.planner.specs.Planner.{Planned, theAnswer, afterVerdict, areaAfter}
 use Rattle.planner.specs.Steps.{GoodPlanned, Tabled}
 
 module _ (n : ℕ) (rows : List Row) where

@@ -7,13 +7,13 @@
 -- Assumes nothing.
 use mathlib.Core.Path.{_≡_, refl, _∙_, ap, sym}
 use mathlib.Core.Logic.{_↔_}
-use Prim.Native.Nat.{ℕ, zero, suc, _*_, _≤_, _<_}
+use Prim.Native.Nat.{ℕ, zero, suc, _≤_, _<_}
 use native.Mathlib.Omega.{arith}
 use native.Mathlib.Nat.{mul-comm}
-use mathlib.Core.Bool.{Bool, true, false, cond}
+use mathlib.Core.Bool.{cond}
 use mathlib.Core.List.{List, _++_}
-use borrow.Author.Tests.{le-ltb, eq-eqb, ne-eqb}
-use lib.Dec.{eqb, ltb, eqb·suc-zero}
+use borrow.Author.Tests.{le-ltb, ne-eqb}
+use lib.Dec.{eqb, eqb·suc-zero}
 use lib.ListN.{length, getD, take, drop}
 use lib.Seq.{take-at}
 use Rattle.lists.specs.Lists.{total}
@@ -21,23 +21,22 @@ use Rattle.lists.proofs.Figures.{at-most-largest}
 use Rattle.table.specs.declared.Row.{Row}
 use Rattle.table.specs.declared.Refusal.{Refusal}
 use Rattle.table.specs.declared.Verdict.the-variants as verdict
-use Rattle.table.specs.Table.{WellFormed, judge, judgeRows, refuse, destinations, dues, distances, lastDue}
+use Rattle.table.specs.Table.{WellFormed, judgeRows, refuse, destinations, dues, distances, lastDue}
 use Rattle.table.specs.Steps.{sources, rowsOf}
 use Rattle.table.proofs.Rows.{rows-of-columns, same-rows}
 use Rattle.slack.specs.Slack.{Traffic, OnRing, planOf, stateAt, lateRow, stopOf}
-use Rattle.slack.specs.Steps.{AllUnderWay}
 use Rattle.slack.proofs.Walking.{plan-length}
 use Rattle.slack.proofs.Rule.{LowestLate, late-lowest}
 use Rattle.slack.proofs.Ending.{stop-first}
-use Rattle.optimal.specs.Schedule.{Schedule, busy}
+use Rattle.optimal.specs.Schedule.{busy}
 use Rattle.optimal.proofs.Optimal.{plan-is-schedule, late-iff-none}
 use Rattle.optimal.proofs.Sends.{sends-counted}
 use Rattle.planner.specs.declared.Answer.{Answer}
 use Rattle.planner.specs.declared.Answer.the-variants.{Accepted, Refused}
 use Rattle.planner.specs.Planner.{trafficOf, planRoom, ending, thePlan, theArrivals, theSummary, answerToRows, afterVerdict, theAnswer, numberOf, areaAfter, Planned, ScheduleOf, Plannable}
 use Rattle.planner.specs.Steps.{Tabled}
-use Rattle.planner.proofs.Judged.{Sound, sound}
-use Rattle.planner.proofs.Good.{on-ring, its-traffic, its-start}
+use Rattle.planner.proofs.Judged.{sound}
+use Rattle.planner.proofs.Good.{on-ring, its-start}
 
 -- Two outcomes that fit the promise are equal: the answer, and every entry of both areas.
 pub one-outcome : {n : ℕ} {rows : List Row} {plan arrivals plan₁ arrivals₁ plan₂ arrivals₂ : List ℕ} {r₁ r₂ : Answer}

@@ -7,8 +7,8 @@ use lib.Dec.{eqb}
 use lib.ListN.{length, replicate}
 use Rattle.lists.specs.Lists.{total, largest}
 use Rattle.table.specs.declared.Row.{Row}
-use Rattle.table.specs.Table.{WellFormed, refuse}
-use Rattle.table.specs.Steps.{rowsOf, SameRows}
+use Rattle.table.specs.Table.{refuse}
+use Rattle.table.specs.Steps.{SameRows}
 use Rattle.slack.specs.declared.Stop.{Stop}
 use Rattle.slack.specs.Slack.{Traffic, planOf, arrivalsOf, stopOf}
 use Rattle.slack.specs.Steps.{Ready, AllUnderWay}

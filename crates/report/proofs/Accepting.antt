@@ -27,7 +27,7 @@ use Rattle.planner.proofs.Good.{soon}
 use Rattle.planner.proofs.Judged.{Sound, sound, listed-fronts, fronts-tabled}
 use Rattle.planner.proofs.Promises.{tabled, all-good}
 use Rattle.report.specs.Report.{verdictLines, acceptedText, answerText, tableText}
-use Rattle.report.specs.Steps.{Put, Room, Slotted}
+use Rattle.report.specs.Steps.{Room, Slotted}
 use Rattle.report.proofs.Sizes.{verdict-most, accepted-most}
 
 distances-long : (n : ℕ) (rows : List Row) → length (distances n rows) ≡ length rows

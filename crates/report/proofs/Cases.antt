@@ -1,7 +1,6 @@
 -- The definitions at work: case B of document 01 as input, and its output byte by byte; and a text and a table that are refused.
 -- Assumes nothing.
 use mathlib.Core.Path.{_≡_, refl}
-use mathlib.Core.Bool.{Bool}
 use mathlib.Core.List.{List, [], _∷_, map}
 use Prim.Native.Nat.{ℕ}
 use lib.Ieee.{div, ofInt}

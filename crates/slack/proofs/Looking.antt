@@ -1,19 +1,18 @@
 -- One row looked at: what its node would send afterwards, for each way through `look`.
 -- Assumes nothing.
 use mathlib.Core.Path.{_≡_, refl, _∙_, ap, sym}
-use mathlib.Core.Bool.{Bool, true, false, cond, _&&_, _||_, and-false, or-true}
+use mathlib.Core.Bool.{true, false, _||_, and-false, or-true}
 use Prim.Native.Nat.{ℕ, zero, suc, pred, _+_, _-_, _≤_, _<_}
 use native.Mathlib.Numerals.{add-one, sub-one}
 use native.Mathlib.Omega.{arith}
-use borrow.Author.Tests.{lt-ltb, le-ltb, eq-eqb, ne-eqb}
-use mathlib.Core.List.{List, [], _∷_}
-use lib.Dec.{eqb, ltb}
+use borrow.Author.Tests.{lt-ltb, eq-eqb, ne-eqb}
+use mathlib.Core.List.{List}
+use lib.Dec.{eqb}
 use lib.Signed.{ltZ}
 use lib.ListN.{length, getD, set, replicate}
 use lib.Seq.{set-getD}
-use Rattle.lists.specs.Lists.{build}
 use Rattle.lists.proofs.Build.{length-build, getD-build, build-ext, build-const, set-build}
-use Rattle.slack.specs.Slack.{Traffic, OnRing, underWay, place, slackOf, slack, better, pick, slotOf}
+use Rattle.slack.specs.Slack.{Traffic, underWay, place, slackOf, slack, better, pick, slotOf}
 use Rattle.slack.specs.Steps.{seen, Looking}
 use Rattle.slack.proofs.Rule.{place-inside, pick-least}
 

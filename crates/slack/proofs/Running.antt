@@ -6,20 +6,19 @@ use Prim.Native.Nat.{ℕ, zero, suc, _+_, _-_, _*_, _≤_, _<_}
 use native.Mathlib.Omega.{arith}
 use native.Mathlib.Decide.{decLt}
 use borrow.Author.Tests.{lt-ltb, le-ltb, ne-eqb}
-use mathlib.Core.List.{List, [], _∷_, _++_, append-assoc, append-nil}
-use lib.Dec.{eqb, ltb}
+use mathlib.Core.List.{List, [], _++_, append-assoc, append-nil}
+use lib.Dec.{ltb}
 use borrow.Rule.Slice.PartMut.{putMid}
 use lib.ListN.{length, getD, take, drop, replicate, length-drop, drop-of-length-le, replicate-append-replicate}
 use lib.Seq.{take-at, length-take-le}
-use Rattle.lists.specs.Lists.{build, largest}
+use Rattle.lists.specs.Lists.{largest}
 use Rattle.lists.proofs.Figures.{at-most-largest}
 use Rattle.lists.proofs.Build.{length-build, getD-build, build-ext, build-const, is-build}
-use Rattle.slack.specs.Slack.{Traffic, OnRing, underWay, place, pick, slotOf, moved, stateAt, planOf, deliveredFrom, arrivalsOf, anyUnderWay}
+use Rattle.slack.specs.Slack.{Traffic, OnRing, underWay, pick, slotOf, stateAt, planOf, deliveredFrom, arrivalsOf, anyUnderWay}
 use Rattle.slack.specs.Steps.{named, stamped, stampedBy, Ready, Walked, AllUnderWay, Ran}
 use Rattle.slack.specs.declared.Stop.{Stop}
 use Rattle.slack.proofs.Ending.{stop-first, stop-delivered}
-use Rattle.slack.proofs.Joined.{differ}
-use Rattle.slack.proofs.Rule.{Picked, Stands, pick-least, state-length, state-on-ring, moved-entry, moved-less, none-under-way}
+use Rattle.slack.proofs.Rule.{pick-least, state-length, state-on-ring, moved-entry, moved-less, none-under-way}
 use Rattle.slack.proofs.Walking.{plan-length}
 use Rattle.slack.proofs.Sending.{named-there, named-under-way}
 

@@ -1,16 +1,16 @@
 -- The rows that a slot names, link by link: what `send` has done after p links.
 -- Assumes nothing.
 use mathlib.Core.Path.{_≡_, refl, _∙_, ap, sym}
-use mathlib.Core.Bool.{Bool, true, false, cond, _&&_, _||_, or-false, or-true, or-assoc}
+use mathlib.Core.Bool.{Bool, true, false, cond, _||_, or-false, or-true, or-assoc}
 use Prim.Native.Nat.{ℕ, zero, suc, _+_, _-_, _≤_, _<_}
 use native.Mathlib.Nat.{not-suc-le-zero}
 use native.Mathlib.Numerals.{add-one}
 use native.Mathlib.Omega.{arith}
-use borrow.Author.Tests.{eq-eqb, ne-eqb, eqb-true, eqb-false}
+use borrow.Author.Tests.{eq-eqb, ne-eqb, eqb-true}
 use mathlib.Core.List.{List, [], _∷_}
 use lib.Dec.{eqb, eqb·zero-suc}
 use lib.ListN.{length, getD, set, take}
-use lib.Seq.{take-all, getD-take, length-take-le}
+use lib.Seq.{getD-take, length-take-le}
 use Rattle.lists.specs.Lists.{build}
 use Rattle.lists.proofs.Build.{length-build, getD-build, build-ext, build-of, set-build}
 use Rattle.slack.specs.Slack.{Traffic, OnRing, place, slotOf, moved}

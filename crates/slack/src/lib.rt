@@ -1,13 +1,11 @@
 ghost use mathlib.Core.Path.{_≡_};
 ghost use mathlib.Core.Bool.{_&&_};
-ghost use mathlib.Core.List.{_++_};
-ghost use Prim.Native.Nat.{ℕ, suc, _+_, _*_, _^_, _≤_, _<_};
+ghost use Prim.Native.Nat.{suc, _+_, _*_, _^_, _<_};
 ghost use lib.Dec.{ltb};
 ghost use lib.IntN.{pos};
 ghost use lib.Signed.{ltZ};
-ghost use lib.ListN.{length, getD, drop};
-ghost use Rattle.lists.specs.Lists.{largest};
-ghost use Rattle.slack.specs.Slack.{traffic, OnRing, slackOf, anyUnderWay, slotOf, moved};
+ghost use lib.ListN.{length};
+ghost use Rattle.slack.specs.Slack.{traffic, OnRing, slackOf, anyUnderWay, slotOf};
 ghost use Rattle.slack.specs.Steps.{seen, less, stamped, Looking, Sending, Slotted, SlotPlanned, Ready, Walked, AllUnderWay, Ran};
 use lists::clear;
 use ring::Links;

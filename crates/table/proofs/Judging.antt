@@ -4,7 +4,7 @@
 --     its-destinations, its-dues, its-distances      their columns
 --     good-rows                              every row of a table without a bad row is good
 -- Assumes nothing.
-use mathlib.Core.Path.{_≡_, refl, _∙_, ap, sym}
+use mathlib.Core.Path.{_≡_, refl, _∙_}
 use Prim.Native.Nat.{ℕ, zero, suc, _+_, _≤_, _<_}
 use native.Mathlib.Numerals.{add-one}
 use native.Mathlib.Omega.{arith}
@@ -19,7 +19,6 @@ use Rattle.lists.proofs.Build.{length-build, getD-build, build-ext, build-of, m
 use Rattle.ring.specs.Ring.{distance}
 use Rattle.table.specs.declared.Row.{Row}
 use Rattle.table.specs.declared.Refusal.{Refusal}
-use Rattle.table.specs.declared.Verdict.{Verdict}
 use Rattle.table.specs.declared.Verdict.the-variants.{Good, Refused}
 use Rattle.table.specs.Table.{latest-due, refuse, rowRefusal, judgeRows, destinations, dues, distances}
 use Rattle.table.specs.Steps.{none, rowsOf, SameRows}

@@ -1,13 +1,11 @@
 -- The definitions at work: case B of document 01, and texts with one thing wrong each.
 -- Assumes nothing.
 use mathlib.Core.Path.{_≡_, refl}
-use mathlib.Core.Bool.{Bool, true, false, cond, _&&_}
 use mathlib.Core.List.{List, [], _∷_, map, _++_}
 use Prim.Native.Nat.{ℕ}
 use lib.ListN.{replicate}
 use Rattle.table.specs.Table.{refuse}
 use Rattle.table.specs.declared.Row.{Row}
-use Rattle.text.specs.declared.Reading.{Reading}
 use Rattle.text.specs.declared.Reading.the-variants.{Read, Refused}
 use Rattle.text.specs.declared.Writing.the-variants.{Written, Refused as NotWritten}
 use Rattle.text.specs.Text.{width, lastDigits, numeral, line, rowText, rowsText, textOf, starts, digitsAt, extended, lineValue, lineGood, lineRest, wrongInRow, rowAt, pastRow, wrongLine, rowsAt, nodesIn, rowsIn, bodyOf, readingOfRows, readingOfBody, readingOf, rowsRead, writingOf, areaAfter}

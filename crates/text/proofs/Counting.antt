@@ -1,10 +1,10 @@
 -- The digits at a place, byte by byte, as `figures_at` reads them.
 -- Assumes nothing.
-use mathlib.Core.Path.{_≡_, refl, _∙_, ap, sym}
-use mathlib.Core.Bool.{Bool, true, false, cond, _&&_, and-false}
-use mathlib.Core.List.{List, [], _∷_, _++_}
+use mathlib.Core.Path.{_≡_, refl, _∙_}
+use mathlib.Core.Bool.{Bool, true, false, _&&_, and-false}
+use mathlib.Core.List.{List, [], _∷_}
 use Prim.Native.Nat.{ℕ, zero, suc, _+_, _-_, _*_, _^_, _≤_, _<_, min}
-use native.Mathlib.Nat.{not-suc-le-zero, le-of-suc-le-suc, pow-suc}
+use native.Mathlib.Nat.{pow-suc}
 use native.Mathlib.Numerals.{add-one}
 use native.Mathlib.Omega.{arith}
 use borrow.Author.Tests.{le-leb, lt-leb, ltb-true, ltb-false}
@@ -13,7 +13,6 @@ use lib.ListN.{length, getD, drop, drop-of-length-le}
 use lib.Seq.{drop-cons}
 use Rattle.text.specs.Text.{digitsAt, extended}
 use Rattle.text.specs.Steps.{figuresIn}
-use Rattle.text.specs.declared.Figures.{Figures}
 
 nothing-there : (k : ℕ) → digitsAt k [] ≡ []
 unfolding digitsAt

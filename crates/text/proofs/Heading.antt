@@ -1,20 +1,19 @@
 -- The first two lines, and what follows directly after them, as `read_columns` goes on.
 -- Assumes nothing.
-use mathlib.Core.Path.{_≡_, refl, _∙_, ap, sym}
-use mathlib.Core.Bool.{Bool, true, false, cond, _&&_}
-use mathlib.Core.List.{List, [], _∷_, _++_}
-use Prim.Native.Nat.{ℕ, zero, suc, _+_, _-_, _≤_, _<_}
+use mathlib.Core.Path.{_≡_, _∙_, ap, sym}
+use mathlib.Core.Bool.{false}
+use mathlib.Core.List.{List}
+use Prim.Native.Nat.{ℕ, _≤_, _<_}
 use native.Mathlib.Omega.{arith}
-use borrow.Author.Tests.{lt-ltb, le-ltb, eq-eqb, ne-eqb}
-use lib.Dec.{eqb, ltb}
-use lib.ListN.{length, drop}
+use borrow.Author.Tests.{lt-ltb, le-ltb, ne-eqb}
+use lib.ListN.{drop}
 use Rattle.table.specs.Table.{refuse}
 use Rattle.table.specs.Steps.{columns}
 use Rattle.table.specs.declared.Refusal.{Refusal}
 use Rattle.text.specs.declared.Header.{Header}
 use Rattle.text.specs.declared.Reading.{Reading}
 use Rattle.text.specs.declared.Reading.the-variants.{Read, Refused}
-use Rattle.text.specs.Text.{nodes-key, rows-key, lineValue, lineGood, lineRest, wrongLine, rowsAt, nodesIn, rowsIn, bodyOf, readingOfRows, readingOfBody, readingOf, rowsRead, filled}
+use Rattle.text.specs.Text.{nodes-key, rows-key, lineGood, nodesIn, rowsIn, bodyOf, readingOfRows, readingOfBody, readingOf, rowsRead}
 use Rattle.text.specs.Steps.{RowsTaken, TextRead}
 use Rattle.text.proofs.Rows.{Seen}
 

@@ -2,7 +2,7 @@
 -- Assumes nothing.
 use mathlib.Core.Path.{_≡_, refl, _∙_, ap, sym}
 use mathlib.Core.List.{List, [], _∷_, _++_, append-assoc, append-nil}
-use Prim.Native.Nat.{ℕ, zero, suc, _+_, _-_, _*_, _≤_, _<_}
+use Prim.Native.Nat.{ℕ, zero, suc, _+_, _-_, _*_, _≤_}
 use native.Mathlib.Omega.{arith}
 use native.Mathlib.Numerals.{add-one}
 use lib.ListN.{length, getD, length-append}
@@ -11,7 +11,7 @@ use Rattle.lists.proofs.Build.{length-build}
 use Rattle.table.specs.Steps.{listed}
 use Rattle.table.specs.declared.Row.{Row}
 use Rattle.table.specs.declared.Columns.{Columns}
-use Rattle.text.specs.Text.{width, src-key, dst-key, due-key, line, rowText, rowsText}
+use Rattle.text.specs.Text.{src-key, dst-key, due-key, line, rowText, rowsText}
 use Rattle.text.proofs.Numeral.{width-most}
 use Rattle.text.proofs.Lines.{line-length}
 

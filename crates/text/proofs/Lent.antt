@@ -21,7 +21,7 @@ use Rattle.text.specs.declared.Reading.{Reading}
 use Rattle.text.specs.declared.Reading.the-variants.{Read, Refused}
 use Rattle.text.specs.declared.Writing.{Writing}
 use Rattle.text.specs.declared.Writing.the-variants.{Refused as NotWritten}
-use Rattle.text.specs.Text.{readingOf, rowsRead, filled, writingOf, areaAfter, TextParsed, TextTaken, TextPut}
+use Rattle.text.specs.Text.{readingOf, filled, writingOf, areaAfter, TextParsed, TextTaken, TextPut}
 use Rattle.text.proofs.Parsing.{filled-rows}
 use Rattle.text.proofs.RoundTrip.{read-fits, rows-counted}
 

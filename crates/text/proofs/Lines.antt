@@ -5,22 +5,20 @@
 --     no-key, too-great, not-canonical, no-end, other-end, good-line   as `line_at` looks
 -- Assumes nothing.
 use mathlib.Core.Path.{_≡_, refl, _∙_, ap, sym}
-use mathlib.Core.Bool.{Bool, true, false, cond, _&&_, and-false}
+use mathlib.Core.Bool.{Bool, true, false, _&&_, and-false}
 use mathlib.Core.Logic.{_↔_}
 use mathlib.Core.List.{List, [], _∷_, _++_, append-assoc}
-use Prim.Native.Nat.{ℕ, zero, suc, _+_, _-_, _≤_, _<_}
-use native.Mathlib.Numerals.{add-one}
+use Prim.Native.Nat.{ℕ, _+_, _-_, _≤_, _<_}
 use native.Mathlib.Omega.{arith}
-use borrow.Author.Tests.{le-leb, lt-leb, leb-true, eq-eqb, ne-eqb, eqb-true}
-use lib.Dec.{eqb, leb}
+use borrow.Author.Tests.{le-leb, lt-leb, leb-true, ne-eqb}
+use lib.Dec.{leb}
 use lib.ListN.{length, getD, drop, drop-of-length-le, length-drop, length-append}
-use lib.Seq.{drop-cons, drop-append-seam, drop-drop, getD-drop}
+use lib.Seq.{drop-cons, drop-append-seam, drop-drop}
 use Rattle.text.specs.declared.Figures.{Figures}
-use Rattle.text.specs.declared.Line.{Line}
 use Rattle.text.specs.declared.Line.the-variants.{Good, Wrong}
 use Rattle.text.specs.Text.{width, numeral, line, starts, digitsAt, extended, lineValue, lineGood, lineRest}
 use Rattle.text.specs.Steps.{lineSeen, figuresIn}
-use Rattle.text.proofs.Numeral.{Digits, numeral-length, numeral-digits, numeral-value, numeral-again, width-most, width-some, digits-read, digits-are, digits-stand, digits-most}
+use Rattle.text.proofs.Numeral.{numeral-length, numeral-digits, numeral-value, numeral-again, width-most, digits-read, digits-are, digits-stand}
 use Rattle.text.proofs.Front.{differ, starts-self, starts-true, starts-join}
 
 pub both-hold : (x y : Bool) → x && y ≡ true → (x ≡ true) × (y ≡ true)

@@ -4,21 +4,20 @@
 --     none-loaded, more-loaded, stopped-at, left-over, all-loaded   its laws
 -- Assumes nothing.
 use mathlib.Core.Path.{_≡_, refl, _∙_, ap, sym}
-use mathlib.Core.Bool.{Bool, true, false, cond, _&&_}
+use mathlib.Core.Bool.{Bool, true, false}
 use mathlib.Core.List.{List, [], _∷_, _++_, map}
 use Prim.Native.Nat.{ℕ, zero, suc, _+_, _-_, _*_, _≤_, _<_}
 use native.Mathlib.Numerals.{add-one}
 use native.Mathlib.Omega.{arith}
-use borrow.Author.Tests.{eq-eqb, ne-eqb, eqb-true, eqb-false}
-use lib.Dec.{eqb}
-use lib.ListN.{length, getD, set, drop, length-drop, length-append, length-map, replicate, drop-of-length-le}
+use borrow.Author.Tests.{ne-eqb}
+use lib.ListN.{length, set, drop, length-drop, length-append, length-map, replicate, drop-of-length-le}
 use lib.Seq.{drop-drop, drop-append-seam}
 use Rattle.table.specs.Table.{destinations, dues}
 use Rattle.table.specs.Steps.{column, columns, sources}
 use Rattle.table.specs.declared.Row.{Row}
 use Rattle.text.specs.declared.RowSeen.{RowSeen}
 use Rattle.text.specs.declared.RowSeen.the-variants.{Whole, Broken}
-use Rattle.text.specs.Text.{src-key, dst-key, due-key, line, rowText, lineValue, lineGood, lineRest, wrongInRow, rowAt, pastRow, wrongLine, rowsAt}
+use Rattle.text.specs.Text.{src-key, dst-key, due-key, line, rowText, lineGood, lineRest, wrongInRow, rowAt, pastRow, wrongLine, rowsAt}
 use Rattle.text.specs.Steps.{rowSeen, RowsTaken}
 use Rattle.text.proofs.ColumnLaws.{column-none, column-more, map-last}
 use Rattle.text.proofs.RowLaws.{RowGood, wrong-none, row-stands}

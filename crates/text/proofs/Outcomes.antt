@@ -1,23 +1,19 @@
 -- What writing comes to, for each way through `write_columns`.
 -- Assumes nothing.
-use mathlib.Core.Path.{_≡_, refl, _∙_, ap, sym}
-use mathlib.Core.Bool.{Bool, true, false, cond}
-use mathlib.Core.List.{List, [], _∷_, _++_}
-use Prim.Native.Nat.{ℕ, zero, suc, _+_, _-_, _≤_, _<_}
+use mathlib.Core.Path.{_≡_, refl, _∙_, ap}
+use mathlib.Core.List.{List, _++_}
+use Prim.Native.Nat.{ℕ, _+_, _≤_, _<_}
 use native.Mathlib.Omega.{arith}
 use borrow.Author.Tests.{lt-ltb, le-ltb}
-use lib.Dec.{ltb}
 use lib.ListN.{length, drop, length-append}
 use Rattle.table.specs.Table.{refuse}
 use Rattle.table.specs.Steps.{listed}
 use Rattle.table.specs.declared.Row.{Row}
 use Rattle.table.specs.declared.Columns.{Columns}
-use Rattle.text.specs.declared.Writing.{Writing}
 use Rattle.text.specs.declared.Writing.the-variants.{Written, Refused as NotWritten}
 use Rattle.text.specs.Text.{nodes-key, rows-key, line, rowsText, textOf, writingOf, areaAfter}
 use Rattle.text.specs.Steps.{pasted}
 use Rattle.text.proofs.Lengths.{listed-length, rows-most, line-most}
-use Rattle.text.proofs.Placing.{three-placed}
 
 module _ (n rows : ℕ) (c : Columns) (area : List ℕ) where
   abbrev table : List Row

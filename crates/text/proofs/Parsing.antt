@@ -1,18 +1,17 @@
 -- From what `read` says of its columns to what `parse` says of its answer.
 -- Assumes nothing.
 use mathlib.Core.Path.{_≡_, refl, _∙_, ap, sym}
-use mathlib.Core.List.{List, [], _∷_, _++_}
-use Prim.Native.Nat.{ℕ, zero, suc, _≤_}
+use mathlib.Core.List.{List, [], _∷_}
+use Prim.Native.Nat.{ℕ, _≤_}
 use native.Mathlib.Omega.{arith}
 use lib.ListN.{length, replicate}
 use Rattle.table.specs.Table.{destinations, dues}
-use Rattle.table.specs.Steps.{columns, listed, sources}
+use Rattle.table.specs.Steps.{columns, sources}
 use Rattle.table.specs.declared.Row.{Row}
 use Rattle.table.specs.declared.Columns.{Columns}
-use Rattle.text.specs.declared.Parsed.{Parsed}
 use Rattle.text.specs.declared.Reading.{Reading}
 use Rattle.text.specs.declared.Reading.the-variants.{Read, Refused}
-use Rattle.text.specs.Text.{rowsAt, bodyOf, readingOf, rowsRead, filled, TextParsed}
+use Rattle.text.specs.Text.{bodyOf, readingOf, rowsRead, filled, TextParsed}
 use Rattle.text.specs.Steps.{held, TextRead}
 use Rattle.text.proofs.ColumnLaws.{column-none}
 use Rattle.table.proofs.Rows.{listed-columns}

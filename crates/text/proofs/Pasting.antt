@@ -6,14 +6,14 @@
 use mathlib.Core.Path.{_≡_, refl, _∙_, ap, sym}
 use mathlib.Core.List.{List, [], _∷_, _++_, append-assoc}
 use Prim.Native.Nat.{ℕ, zero, suc, _+_, _-_, _/_, _%_, _≤_, _<_}
-use native.Mathlib.Nat.{not-suc-le-zero, le-of-suc-le-suc}
+use native.Mathlib.Nat.{not-suc-le-zero}
 use native.Mathlib.Omega.{arith}
 use native.Mathlib.Numerals.{add-one}
 use mathlib.Core.Bool.{Bool, true, false}
 use borrow.Author.Tests.{ltb-true, ltb-false}
 use lib.Dec.{ltb}
 use lib.ListN.{length, getD, take, drop, set, length-append, length-drop, List·getD-append}
-use lib.Seq.{paste, paste-suc, length-paste, take-length, take-at, drop-at, drop-drop, length-take-le, getD-append-add, getD-at}
+use lib.Seq.{paste, paste-suc, take-length, take-at, drop-at, drop-drop, length-take-le, getD-append-add, getD-at}
 use Rattle.text.specs.Text.{width, lastDigits, numeral, item, line}
 use Rattle.text.specs.Steps.{tenth, pasted}
 use Rattle.text.proofs.Numeral.{last-length, numeral-length}

@@ -1,10 +1,10 @@
 -- Pieces written one behind the other: three of them, and the lines of the rows one by one.
 -- Assumes nothing.
-use mathlib.Core.Path.{_≡_, refl, _∙_, ap, sym}
-use mathlib.Core.List.{List, [], _∷_, _++_, append-assoc, append-nil}
-use Prim.Native.Nat.{ℕ, zero, suc, _+_, _-_, _≤_, _<_}
+use mathlib.Core.Path.{_≡_, _∙_, ap, sym}
+use mathlib.Core.List.{List, [], _++_, append-assoc, append-nil}
+use Prim.Native.Nat.{ℕ, _+_, _≤_, _<_}
 use native.Mathlib.Omega.{arith}
-use lib.ListN.{length, take, drop, length-append, take-append-drop}
+use lib.ListN.{length, length-append, take-append-drop}
 use Rattle.table.specs.Steps.{listed}
 use Rattle.table.specs.declared.Columns.{Columns}
 use Rattle.text.specs.Text.{rowText, rowsText}

@@ -6,24 +6,22 @@
 --     longest-text     a text has at most 15,381 bytes
 -- Assumes nothing.
 use mathlib.Core.Path.{_≡_, refl, _∙_, ap, sym}
-use mathlib.Core.Bool.{Bool, true, false, cond, _&&_}
+use mathlib.Core.Bool.{Bool, true, false, cond}
 use mathlib.Core.Logic.{_↔_}
-use mathlib.Core.List.{List, [], _∷_, _++_, append-assoc}
-use Prim.Native.Nat.{ℕ, zero, suc, _+_, _-_, _*_, _≤_, _<_}
+use mathlib.Core.List.{List, [], _∷_, _++_}
+use Prim.Native.Nat.{ℕ, zero, suc, _+_, _*_, _≤_, _<_}
 use native.Mathlib.Omega.{arith}
-use borrow.Author.Tests.{lt-ltb, le-ltb, ltb-true, ltb-false, eq-eqb, ne-eqb, eqb-true, eqb-false}
-use lib.Dec.{eqb, ltb, leb}
+use borrow.Author.Tests.{lt-ltb, le-ltb, ltb-false, ne-eqb, eqb-true, eqb-false}
+use lib.Dec.{eqb, ltb}
 use lib.ListN.{length, drop, length-append}
 use Rattle.table.specs.Table.{refuse}
 use Rattle.table.specs.declared.Row.{Row}
 use Rattle.table.specs.declared.Refusal.{Refusal}
 use Rattle.text.specs.declared.Header.{Header}
-use Rattle.text.specs.declared.Reading.{Reading}
 use Rattle.text.specs.declared.Reading.the-variants.{Read, Refused}
-use Rattle.text.specs.Text.{nodes-key, rows-key, src-key, dst-key, due-key, width, line, rowText, rowsText, textOf, RowFits, RowsFit, TableFits, lineValue, lineGood, lineRest, wrongInRow, rowAt, pastRow, wrongLine, rowsAt, nodesIn, rowsIn, bodyOf, readingOfRows, readingOfBody, readingOf, rowsRead, filled, areaAfter}
-use Rattle.text.proofs.Front.{differ}
+use Rattle.text.specs.Text.{nodes-key, rows-key, width, line, rowText, rowsText, textOf, RowFits, RowsFit, TableFits, lineValue, lineGood, lineRest, wrongInRow, rowAt, pastRow, wrongLine, rowsAt, nodesIn, rowsIn, bodyOf, readingOfRows, readingOfBody, readingOf, rowsRead, areaAfter}
 use Rattle.text.proofs.Lines.{line-length, line-found, line-stands}
-use Rattle.text.proofs.RowLaws.{RowGood, wrong-none, none-wrong, row-stands, row-fits, row-found}
+use Rattle.text.proofs.RowLaws.{wrong-none, none-wrong, row-stands, row-fits, row-found}
 use Rattle.text.proofs.Lengths.{line-most, row-most}
 
 -- The lines of rows are read as those rows, and nothing is wrong with them.

@@ -4,12 +4,11 @@
 --     row-stands, row-fits         then the text is the row's three lines and the rest, and the row's values are 16-bit
 --     row-found                    and a text that begins with a row's lines is seen to, with that row and the rest
 -- Assumes nothing.
-use mathlib.Core.Path.{_≡_, refl, _∙_, ap, sym}
-use mathlib.Core.Bool.{Bool, true, false, cond, _&&_}
-use mathlib.Core.List.{List, [], _∷_, _++_, append-assoc}
-use Prim.Native.Nat.{ℕ, zero, suc, _+_, _-_, _≤_, _<_}
+use mathlib.Core.Path.{_≡_, refl, _∙_, ap}
+use mathlib.Core.Bool.{Bool, true, false, cond}
+use mathlib.Core.List.{List, _++_, append-assoc}
+use Prim.Native.Nat.{ℕ, _+_, _<_}
 use native.Mathlib.Omega.{arith}
-use lib.ListN.{length, drop}
 use Rattle.table.specs.declared.Row.{Row}
 use Rattle.text.specs.Text.{src-key, dst-key, due-key, line, rowText, lineValue, lineGood, lineRest, wrongInRow, rowAt, pastRow, RowFits}
 use Rattle.text.proofs.Lines.{line-stands, line-found}

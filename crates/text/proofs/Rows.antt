@@ -4,20 +4,17 @@
 --     broken-first, broken-second, broken-third, whole   the answers of `row_at`
 -- Assumes nothing.
 use mathlib.Core.Path.{_≡_, refl, _∙_, ap, sym}
-use mathlib.Core.Bool.{Bool, true, false, cond, _&&_}
-use mathlib.Core.List.{List, [], _∷_, _++_}
-use Prim.Native.Nat.{ℕ, zero, suc, _+_, _-_, _≤_, _<_}
+use mathlib.Core.Bool.{Bool, true, false}
+use mathlib.Core.List.{List}
+use Prim.Native.Nat.{ℕ, _+_, _≤_}
 use native.Mathlib.Omega.{arith}
 use lib.ListN.{length, drop, length-drop, length-append}
 use lib.Seq.{drop-drop}
-use Rattle.table.specs.declared.Row.{Row}
 use Rattle.text.specs.declared.Line.{Line}
 use Rattle.text.specs.declared.Line.the-variants.{Good, Wrong}
-use Rattle.text.specs.declared.RowSeen.{RowSeen}
 use Rattle.text.specs.declared.RowSeen.the-variants.{Whole, Broken}
 use Rattle.text.specs.Text.{src-key, dst-key, due-key, line, rowText, lineValue, lineGood, lineRest, rowAt, pastRow}
 use Rattle.text.specs.Steps.{lineSeen, rowSeen}
-use Rattle.text.proofs.Front.{differ}
 use Rattle.text.proofs.Lines.{line-stands}
 
 pub record Seen (key text : List ℕ) (at v n : ℕ) : Type 0 where

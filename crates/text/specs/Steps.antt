@@ -1,8 +1,7 @@
 -- What the inner functions say: a line, a row's lines and the digits at a place of a text.
-use Prim.Native.Nat.{ℕ, zero, suc, _+_, _-_, _*_, _/_, _%_}
-use mathlib.Core.Bool.{Bool, true, false, cond, _&&_}
-use mathlib.Core.List.{List, [], _∷_, _++_}
-use lib.Dec.{eqb, ltb, leb}
+use Prim.Native.Nat.{ℕ, zero, suc, _+_, _/_}
+use mathlib.Core.Bool.{cond}
+use mathlib.Core.List.{List, _++_}
 use lib.ListN.{length, take, drop}
 use mathlib.Core.Path.{_≡_}
 use Rattle.table.specs.Steps.{columns}

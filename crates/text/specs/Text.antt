@@ -8,7 +8,6 @@ use lib.ListN.{length, drop}
 use Rattle.table.specs.Table.{refuse, most-rows}
 use Rattle.table.specs.Steps.{columns, listed}
 use Rattle.table.specs.declared.Row.{Row}
-use Rattle.text.specs.declared.Header.{Header}
 use Rattle.text.specs.declared.Parsed.{Parsed}
 use Rattle.text.specs.declared.Reading.{Reading}
 use Rattle.text.specs.declared.Reading.the-variants.{Read, Refused}

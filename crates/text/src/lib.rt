@@ -1,11 +1,10 @@
 ghost use mathlib.Core.Path.{_≡_};
-ghost use mathlib.Core.List.{[], _++_};
-ghost use Prim.Native.Nat.{ℕ, suc, min, _+_, _-_, _*_, _^_, _%_, _≤_, _<_};
-ghost use lib.Dec.{ltb};
-ghost use lib.ListN.{length, getD, take, drop, replicate};
+ghost use mathlib.Core.List.{[]};
+ghost use Prim.Native.Nat.{ℕ, min, _+_, _-_, _*_, _%_, _≤_, _<_};
+ghost use lib.ListN.{length, getD, drop, replicate};
 ghost use Rattle.table.specs.Table.{refuse};
 ghost use Rattle.table.specs.Steps.{listed, columns};
-ghost use Rattle.text.specs.Text.{TextParsed, starts, readingOf, rowsRead, width, filled, item, line, rowText, rowsText, textOf, writingOf, areaAfter, digit-zero, TextTaken, TextPut};
+ghost use Rattle.text.specs.Text.{TextParsed, starts, width, filled, item, line, rowText, rowsText, writingOf, areaAfter, digit-zero, TextTaken, TextPut};
 ghost use Rattle.text.specs.Steps.{figuresIn, lineSeen, rowSeen, RowsTaken, TextRead, tenth, pasted, held};
 use ring::Slot;
 use table::Columns;

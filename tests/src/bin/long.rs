@@ -2,6 +2,7 @@
 
 use panel_tests::cases::{faulty, large, small, Kind, Tally};
 use panel_tests::random::Random;
+use panel_tests::texts::{harmed, there_and_back};
 use std::time::{Duration, Instant, SystemTime, UNIX_EPOCH};
 
 fn main() {
@@ -20,12 +21,14 @@ fn main() {
     let first: u64 = words
         .next()
         .map_or_else(now, |w| w.parse().expect("the seed is no number"));
-    let kinds: [(&str, Kind, usize); 3] = [
+    let kinds: [(&str, Kind, usize); 5] = [
         ("small", small, 60),
         ("large", large, 4),
         ("refused", faulty, 12),
+        ("text", there_and_back, 12),
+        ("text", harmed, 24),
     ];
-    let mut tallies = [Tally::new(), Tally::new(), Tally::new()];
+    let mut tallies: [Tally; 5] = Default::default();
     let start = Instant::now();
     let mut seed = first;
     while start.elapsed() < Duration::from_secs(seconds) {
@@ -42,6 +45,6 @@ fn main() {
             }
         }
     }
-    let [small, large, refused] = tallies;
-    println!("long: {} tables in {seconds} s from seed {first}, none fails: small {small:?}, large {large:?}, with faults {refused:?}", seed - first);
+    let [small, large, refused, texts, wrong] = tallies;
+    println!("long: {} tables in {seconds} s from seed {first}, none fails: small {small:?}, large {large:?}, with faults {refused:?}, as text {texts:?}, as text with faults {wrong:?}", seed - first);
 }

@@ -1,6 +1,6 @@
 -- `lists::clear` meets its contract: after i turns the first i entries are 0 and the rest are as they came.
 -- Assumes nothing.
-use mathlib.Core.Path.{_≡_, _∙_, ap, refl, sym}
+use mathlib.Core.Path.{_≡_, _∙_, refl}
 use mathlib.Core.List.{_++_, append-nil}
 use Prim.Native.Nat.{ℕ, _≤_, _-_}
 use native.Mathlib.Omega.{arith}
@@ -10,8 +10,6 @@ use borrow.Author.Fill.{fill-more}
 use lib.ListN.{length, drop, replicate, length-set, drop-of-length-le}
 use Rattle.lists.proofs.clear.Statement.{statement}
 use Rattle.lists.proofs.clear.Tie as tie
-use Rattle.lists.proofs.clear.Reads as reads
-use Rattle.lists.proofs.clear.Lts as lts
 
 abbrev Inv-loop : tie.InvT-loop
 Inv-loop part₀ i₀ part i = (i ≤ length part₀) × (length part ≡ length part₀) × (part ≡ replicate {A = ℕ} i 0 ++ drop i part₀)

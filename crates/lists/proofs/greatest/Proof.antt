@@ -1,10 +1,9 @@
 -- `lists::greatest` meets its contract: after i turns it holds the largest of the first i entries.
 -- Assumes nothing.
-use mathlib.Core.Path.{_≡_, _∙_, ap, refl, sym}
+use mathlib.Core.Path.{_≡_, _∙_, ap}
 use mathlib.Core.Logic.{⊎-elim}
-use Prim.Native.Nat.{ℕ, _≤_, _+_, _-_, _*_, max}
+use Prim.Native.Nat.{_≤_, _+_, _-_, max}
 use native.Mathlib.Omega.{arith}
-use native.Mathlib.Numerals.{add-one}
 use borrow.Author.Needs.{needs}
 use lib.ListN.{length, take, getD}
 use lib.Seq.{take-all}
@@ -12,8 +11,6 @@ use Rattle.lists.specs.Lists.{largest}
 use Rattle.lists.proofs.Figures.{largest-more}
 use Rattle.lists.proofs.greatest.Statement.{statement}
 use Rattle.lists.proofs.greatest.Tie as tie
-use Rattle.lists.proofs.greatest.Reads as reads
-use Rattle.lists.proofs.greatest.Lts as lts
 
 abbrev Inv-loop : tie.InvT-loop
 Inv-loop part most₀ i₀ most i = (i ≤ length part) × (most ≡ largest (take i part))

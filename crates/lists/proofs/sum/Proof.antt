@@ -1,9 +1,8 @@
 -- `lists::sum` meets its contract: after i turns it holds the sum of the first i entries, each below 65,536.
 -- Assumes nothing.
-use mathlib.Core.Path.{_≡_, _∙_, ap, refl, sym}
-use Prim.Native.Nat.{ℕ, _≤_, _+_, _-_, _*_, max}
+use mathlib.Core.Path.{_≡_, _∙_, ap}
+use Prim.Native.Nat.{_≤_, _+_, _-_, _*_}
 use native.Mathlib.Omega.{arith}
-use native.Mathlib.Numerals.{add-one}
 use borrow.Author.Needs.{needs}
 use lib.ListN.{length, take, getD}
 use lib.Seq.{take-all}
@@ -11,8 +10,6 @@ use Rattle.lists.specs.Lists.{total}
 use Rattle.lists.proofs.Figures.{total-more}
 use Rattle.lists.proofs.sum.Statement.{statement}
 use Rattle.lists.proofs.sum.Tie as tie
-use Rattle.lists.proofs.sum.Reads as reads
-use Rattle.lists.proofs.sum.Lts as lts
 
 abbrev Inv-loop : tie.InvT-loop
 Inv-loop part sum₀ i₀ sum i = (i ≤ length part) × (sum ≤ 65535 * i) × (sum ≡ total (take i part))

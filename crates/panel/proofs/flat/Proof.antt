@@ -5,8 +5,6 @@ use borrow.Author.Needs.{needs}
 use Rattle.panel.specs.Panel.{flatOf}
 use Rattle.panel.proofs.flat.Statement.{statement}
 use Rattle.panel.proofs.flat.Tie as tie
-use Rattle.panel.proofs.flat.Reads as reads
-use Rattle.panel.proofs.flat.Lts as lts
 
 enum-known-a : tie.Need-enum-known-a
 enum-known-a c = search needs

@@ -4,13 +4,6 @@ use Rattle.report.proofs.Responding.{count-fits, count-taken}
 use borrow.Author.Needs.{needs}
 use Rattle.plan.proofs.main.Statement.{statement}
 use Rattle.plan.proofs.main.Tie as tie
-use Rattle.plan.proofs.main.Reads as reads
-use Rattle.plan.proofs.main.Lts as lts
-use Rattle.io.proofs.read_full.Reads as read-full-reads
-use Rattle.io.proofs.write_all.Reads as write-all-reads
-use Rattle.plan.proofs.output_room.Reads as output-room-reads
-use Rattle.plan.proofs.text_room.Reads as text-room-reads
-use Rattle.report.proofs.respond.Reads as respond-reads
 
 text-room-requires : tie.Need-text-room-requires
 text-room-requires c κs = search needs

@@ -5,8 +5,6 @@ use Rattle.planner.specs.Planner.{quotient}
 use borrow.Author.Needs.{needs}
 use Rattle.planner.proofs.divide.Statement.{statement}
 use Rattle.planner.proofs.divide.Tie as tie
-use Rattle.planner.proofs.divide.Reads as reads
-use Rattle.planner.proofs.divide.Lts as lts
 
 returns : tie.Need-returns
 unfolding quotient

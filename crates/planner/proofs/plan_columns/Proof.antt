@@ -11,10 +11,6 @@ use Rattle.planner.proofs.Judged.{judge-few, judge-wide, judge-many, tu
 use borrow.Author.Needs.{needs}
 use Rattle.planner.proofs.plan_columns.Statement.{statement}
 use Rattle.planner.proofs.plan_columns.Tie as tie
-use Rattle.planner.proofs.plan_columns.Reads as reads
-use Rattle.planner.proofs.plan_columns.Lts as lts
-use Rattle.planner.proofs.plan_rows.Reads as plan-rows-reads
-use Rattle.planner.proofs.refusal.Reads as refusal-reads
 
 refusal-requires : tie.Need-refusal-requires
 refusal-requires c κs = search needs

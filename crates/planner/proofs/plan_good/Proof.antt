@@ -1,6 +1,6 @@
 -- `planner::plan_good` meets its contract: the areas' fronts are lent to the run, and what it leaves there is what is promised.
 -- Assumes nothing.
-use mathlib.Core.Path.{_≡_, refl, _∙_, ap, sym}
+use mathlib.Core.Path.{_∙_, ap, sym}
 use native.Mathlib.Omega.{arith}
 use Prim.Native.Nat.{_*_}
 use lib.ListN.{length, drop}
@@ -9,13 +9,6 @@ use Rattle.planner.proofs.Good.{front-long, front-again, front-fits, me
 use borrow.Author.Needs.{needs}
 use Rattle.planner.proofs.plan_good.Statement.{statement}
 use Rattle.planner.proofs.plan_good.Tie as tie
-use Rattle.planner.proofs.plan_good.Reads as reads
-use Rattle.planner.proofs.plan_good.Lts as lts
-use Rattle.lists.proofs.greatest.Reads as greatest-reads
-use Rattle.planner.proofs.places.Reads as places-reads
-use Rattle.planner.proofs.plan_run.Reads as plan-run-reads
-use Rattle.planner.proofs.refusal.Reads as refusal-reads
-use Rattle.table.proofs.measure.Reads as measure-reads
 
 greatest-requires : tie.Need-greatest-requires
 greatest-requires c κs = search needs

@@ -1,16 +1,12 @@
 -- `planner::plan_rows` meets its contract: the rows are judged first, and planned where they are good.
 -- Assumes nothing.
-use mathlib.Core.Path.{_≡_, refl, _∙_, sym}
+use mathlib.Core.Path.{refl, _∙_, sym}
 use Rattle.table.specs.Steps.{rowsOf}
 use Rattle.table.proofs.Judging.{rows-long, judged-early}
 use Rattle.planner.proofs.Judged.{judge-each, turned-away, let-through}
 use borrow.Author.Needs.{needs}
 use Rattle.planner.proofs.plan_rows.Statement.{statement}
 use Rattle.planner.proofs.plan_rows.Tie as tie
-use Rattle.planner.proofs.plan_rows.Reads as reads
-use Rattle.planner.proofs.plan_rows.Lts as lts
-use Rattle.planner.proofs.plan_good.Reads as plan-good-reads
-use Rattle.table.proofs.judge_rows.Reads as judge-rows-reads
 
 judge-rows-requires : tie.Need-judge-rows-requires
 judge-rows-requires c κs = search needs

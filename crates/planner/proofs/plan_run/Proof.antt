@@ -5,11 +5,6 @@ use Rattle.planner.proofs.Answering.{run-accepted, run-refused}
 use borrow.Author.Needs.{needs}
 use Rattle.planner.proofs.plan_run.Statement.{statement}
 use Rattle.planner.proofs.plan_run.Tie as tie
-use Rattle.planner.proofs.plan_run.Reads as reads
-use Rattle.planner.proofs.plan_run.Lts as lts
-use Rattle.lists.proofs.sum.Reads as sum-reads
-use Rattle.planner.proofs.sum_up.Reads as sum-up-reads
-use Rattle.slack.proofs.run.Reads as run-reads
 
 sum-requires : tie.Need-sum-requires
 sum-requires c κs = search needs

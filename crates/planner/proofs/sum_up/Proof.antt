@@ -4,11 +4,6 @@ use Rattle.planner.specs.Planner.{summaryOf}
 use borrow.Author.Needs.{needs}
 use Rattle.planner.proofs.sum_up.Statement.{statement}
 use Rattle.planner.proofs.sum_up.Tie as tie
-use Rattle.planner.proofs.sum_up.Reads as reads
-use Rattle.planner.proofs.sum_up.Lts as lts
-use Rattle.lists.proofs.greatest.Reads as greatest-reads
-use Rattle.lists.proofs.sum.Reads as sum-reads
-use Rattle.planner.proofs.divide.Reads as divide-reads
 
 greatest-requires : tie.Need-greatest-requires
 greatest-requires c κs = search needs

@@ -6,8 +6,6 @@ use borrow.Author.Tests.{lt-ltb, le-ltb}
 use borrow.Author.Needs.{needs}
 use Rattle.report.proofs.mark_behind.Statement.{statement}
 use Rattle.report.proofs.mark_behind.Tie as tie
-use Rattle.report.proofs.mark_behind.Reads as reads
-use Rattle.report.proofs.mark_behind.Lts as lts
 
 add-if1 : tie.Need-add-if1
 add-if1 c = search needs

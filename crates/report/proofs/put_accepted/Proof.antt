@@ -5,12 +5,6 @@ use Rattle.report.proofs.Verdict.{head-fits, last-fits, arrives-fit, se
 use borrow.Author.Needs.{needs}
 use Rattle.report.proofs.put_accepted.Statement.{statement}
 use Rattle.report.proofs.put_accepted.Tie as tie
-use Rattle.report.proofs.put_accepted.Reads as reads
-use Rattle.report.proofs.put_accepted.Lts as lts
-use Rattle.report.proofs.put_arrives.Reads as put-arrives-reads
-use Rattle.report.proofs.put_sends.Reads as put-sends-reads
-use Rattle.report.proofs.put_verdict.Reads as put-verdict-reads
-use Rattle.text.proofs.put_line.Reads as put-line-reads
 
 put-verdict-requires : tie.Need-put-verdict-requires
 put-verdict-requires c κs = head-fits (c .before .before .before .before .args .area .now) (c .before .before .before .before .args .last) (c .before .before .before .before .args .arrivals .now) (c .before .before .before .before .args .nodes) (c .before .before .before .before .args .slots) (c .before .before .before .before .args .plan .now) (c .before .before .before .before .pre .1)

@@ -11,9 +11,6 @@ use Rattle.report.proofs.Lines.{next-arrive, no-arrive}
 use borrow.Author.Needs.{needs}
 use Rattle.report.proofs.put_arrives.Statement.{statement}
 use Rattle.report.proofs.put_arrives.Tie as tie
-use Rattle.report.proofs.put_arrives.Reads as reads
-use Rattle.report.proofs.put_arrives.Lts as lts
-use Rattle.text.proofs.put_line.Reads as put-line-reads
 
 abbrev Inv-loop : tie.InvT-loop
 Inv-loop area₀ from arrivals at₀ i₀ t6 area at i = (i ≤ length arrivals) × Putting area₀ from (arriveLines arrivals) area at (arriveLines (drop i arrivals))

@@ -10,10 +10,6 @@ use Rattle.report.proofs.Sending.{first-fits, first-long, others-begun,
 use borrow.Author.Needs.{needs}
 use Rattle.report.proofs.put_send.Statement.{statement}
 use Rattle.report.proofs.put_send.Tie as tie
-use Rattle.report.proofs.put_send.Reads as reads
-use Rattle.report.proofs.put_send.Lts as lts
-use Rattle.report.proofs.mark_behind.Reads as mark-behind-reads
-use Rattle.text.proofs.put_item.Reads as put-item-reads
 
 abbrev Inv-loop : tie.InvT-loop
 Inv-loop area₀ from entries n at₀ i₀ t8 area at i = (i ≤ n) × (n ≡ length entries) × Putting area₀ at₀ (parted (drop 1 entries)) area at (parted (drop i entries))

@@ -9,9 +9,6 @@ use Rattle.report.proofs.Lines.{slot-ends, slot-small, slot-some, next-
 use borrow.Author.Needs.{needs}
 use Rattle.report.proofs.put_sends.Statement.{statement}
 use Rattle.report.proofs.put_sends.Tie as tie
-use Rattle.report.proofs.put_sends.Reads as reads
-use Rattle.report.proofs.put_sends.Lts as lts
-use Rattle.report.proofs.put_send.Reads as put-send-reads
 
 abbrev Inv-loop : tie.InvT-loop
 Inv-loop area₀ from nodes slots plan at₀ t₀ area at t = (t ≤ slots) × Putting area₀ from (sendLines nodes slots plan) area at (sendLines nodes (slots - t) (drop (t * nodes) plan))

@@ -5,9 +5,6 @@ use Rattle.report.proofs.Verdict.{answer-fits, row-fits, slot-fits, ver
 use borrow.Author.Needs.{needs}
 use Rattle.report.proofs.put_verdict.Statement.{statement}
 use Rattle.report.proofs.put_verdict.Tie as tie
-use Rattle.report.proofs.put_verdict.Reads as reads
-use Rattle.report.proofs.put_verdict.Lts as lts
-use Rattle.text.proofs.put_line.Reads as put-line-reads
 
 slice-aggregate-put-line : tie.Need-slice-aggregate-put-line
 slice-aggregate-put-line c = search needs

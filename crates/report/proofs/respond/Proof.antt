@@ -6,11 +6,6 @@ use Rattle.report.proofs.Responding.{not-read, read}
 use borrow.Author.Needs.{needs}
 use Rattle.report.proofs.respond.Statement.{statement}
 use Rattle.report.proofs.respond.Tie as tie
-use Rattle.report.proofs.respond.Reads as reads
-use Rattle.report.proofs.respond.Lts as lts
-use Rattle.report.proofs.put_verdict.Reads as put-verdict-reads
-use Rattle.report.proofs.respond_table.Reads as respond-table-reads
-use Rattle.text.proofs.parse.Reads as parse-reads
 
 parse-requires : tie.Need-parse-requires
 parse-requires c κs = search needs

@@ -7,14 +7,6 @@ use Rattle.report.proofs.Accepting.{verdict-fits, due-fits, due-front, 
 use borrow.Author.Needs.{needs}
 use Rattle.report.proofs.respond_table.Statement.{statement}
 use Rattle.report.proofs.respond_table.Tie as tie
-use Rattle.report.proofs.respond_table.Reads as reads
-use Rattle.report.proofs.respond_table.Lts as lts
-use Rattle.lists.proofs.greatest.Reads as greatest-reads
-use Rattle.planner.proofs.plan_columns.Reads as plan-columns-reads
-use Rattle.report.proofs.arrivals_room.Reads as arrivals-room-reads
-use Rattle.report.proofs.plan_room.Reads as plan-room-reads
-use Rattle.report.proofs.put_accepted.Reads as put-accepted-reads
-use Rattle.report.proofs.put_verdict.Reads as put-verdict-reads
 
 plan-room-requires : tie.Need-plan-room-requires
 plan-room-requires c κs = search needs

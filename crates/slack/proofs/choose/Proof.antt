@@ -10,10 +10,6 @@ use Rattle.slack.specs.Steps.{seen}
 use Rattle.slack.proofs.Looking.{none-looked, all-looked, seen-length}
 use Rattle.slack.proofs.choose.Statement.{statement}
 use Rattle.slack.proofs.choose.Tie as tie
-use Rattle.slack.proofs.choose.Reads as reads
-use Rattle.slack.proofs.choose.Lts as lts
-use Rattle.lists.proofs.clear.Reads as clear-reads
-use Rattle.slack.proofs.look.Reads as look-reads
 
 abbrev Inv-loop : tie.InvT-loop
 Inv-loop nodes dst due left t slot₀ i₀ slot i = (i ≤ length left) × (slot ≡ seen (traffic nodes dst due) (t .0) left i)

@@ -1,15 +1,11 @@
 -- `slack::is_late` meets its contract: a delivered row is never late, and of any other the slack decides.
 -- Assumes nothing.
-use mathlib.Core.Path.{_≡_, _∙_, ap}
 use native.Mathlib.Omega.{arith}
 use borrow.Author.Tests.{le-ltb}
 use Rattle.slack.proofs.Bits.{below-zero}
 use borrow.Author.Needs.{needs}
 use Rattle.slack.proofs.is_late.Statement.{statement}
 use Rattle.slack.proofs.is_late.Tie as tie
-use Rattle.slack.proofs.is_late.Reads as reads
-use Rattle.slack.proofs.is_late.Lts as lts
-use Rattle.slack.proofs.slack.Reads as slack-reads
 
 returns : tie.Need-returns
 returns c = rw (le-ltb 0 (c .before .before .args .left .0) (omega arith))

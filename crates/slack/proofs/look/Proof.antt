@@ -7,10 +7,6 @@ use Rattle.slack.proofs.Looking.{idle, on-ring, slot-has, first, rival-
 use borrow.Author.Needs.{needs}
 use Rattle.slack.proofs.look.Statement.{statement}
 use Rattle.slack.proofs.look.Tie as tie
-use Rattle.slack.proofs.look.Reads as reads
-use Rattle.slack.proofs.look.Lts as lts
-use Rattle.ring.proofs.node_at.Reads as node-at-reads
-use Rattle.slack.proofs.slack.Reads as slack-reads
 
 mul-to-go : tie.Need-mul-to-go
 mul-to-go c = search needs

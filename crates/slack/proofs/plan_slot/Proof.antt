@@ -5,10 +5,6 @@ use Rattle.slack.proofs.Sending.{can-send, slot-planned}
 use borrow.Author.Needs.{needs}
 use Rattle.slack.proofs.plan_slot.Statement.{statement}
 use Rattle.slack.proofs.plan_slot.Tie as tie
-use Rattle.slack.proofs.plan_slot.Reads as reads
-use Rattle.slack.proofs.plan_slot.Lts as lts
-use Rattle.slack.proofs.choose.Reads as choose-reads
-use Rattle.slack.proofs.send.Reads as send-reads
 
 choose-requires : tie.Need-choose-requires
 choose-requires c κs = search needs

@@ -5,10 +5,6 @@ use Rattle.slack.proofs.Running.{inside, accepted, refused}
 use borrow.Author.Needs.{needs}
 use Rattle.slack.proofs.run.Statement.{statement}
 use Rattle.slack.proofs.run.Tie as tie
-use Rattle.slack.proofs.run.Reads as reads
-use Rattle.slack.proofs.run.Lts as lts
-use Rattle.lists.proofs.clear.Reads as clear-reads
-use Rattle.slack.proofs.walk.Reads as walk-reads
 
 walk-requires : tie.Need-walk-requires
 walk-requires c κs = search needs

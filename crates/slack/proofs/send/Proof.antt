@@ -11,8 +11,6 @@ use Rattle.slack.specs.Steps.{less, stamped}
 use Rattle.slack.proofs.Sending.{left-first, arrivals-first, left-long, arrivals-long, left-idle, arrivals-idle, row-inside, left-some, left-sent, arrivals-sent}
 use Rattle.slack.proofs.send.Statement.{statement}
 use Rattle.slack.proofs.send.Tie as tie
-use Rattle.slack.proofs.send.Reads as reads
-use Rattle.slack.proofs.send.Lts as lts
 
 abbrev Inv-loop : tie.InvT-loop
 Inv-loop slot left₀ arrivals₀ end p₀ left arrivals p = (p ≤ length slot) × (left ≡ less (take p slot) left₀) × (arrivals ≡ stamped (take p slot) end arrivals₀)

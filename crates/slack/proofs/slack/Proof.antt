@@ -5,8 +5,6 @@ use Rattle.slack.proofs.Bits.{first-fits, second-fits, is-slack}
 use borrow.Author.Needs.{needs}
 use Rattle.slack.proofs.slack.Statement.{statement}
 use Rattle.slack.proofs.slack.Tie as tie
-use Rattle.slack.proofs.slack.Reads as reads
-use Rattle.slack.proofs.slack.Lts as lts
 
 cast-result : tie.Need-cast-result
 cast-result c = search needs

@@ -1,8 +1,8 @@
 use mathlib.Core.Bool.{true}
 -- `slack::walk` meets its contract: the outer loop keeps what holds where an instant begins, the inner one that no row before i is late.
 -- Assumes nothing.
-use mathlib.Core.Path.{_≡_, _∙_, sym, ap, refl}
-use Prim.Native.Nat.{_+_, _*_, _≤_, _-_}
+use mathlib.Core.Path.{_≡_, _∙_, sym, refl}
+use Prim.Native.Nat.{_≤_, _-_}
 use native.Mathlib.Omega.{arith}
 use lib.ListN.{length}
 use Rattle.lists.specs.Lists.{largest}
@@ -10,11 +10,6 @@ use Rattle.slack.specs.Slack.{traffic, isLate, underWay, slack, anyUnder
 use Rattle.slack.proofs.Walking.{Sought, seek, seek-on, found, not-found, Going, begin, over, is-late, before-last, has-room, can-plan, again}
 use Rattle.slack.proofs.walk.Statement.{statement}
 use Rattle.slack.proofs.walk.Tie as tie
-use Rattle.slack.proofs.walk.Reads as reads
-use Rattle.slack.proofs.walk.Lts as lts
-use Rattle.slack.proofs.any_under_way.Reads as any-under-way-reads
-use Rattle.slack.proofs.is_late.Reads as is-late-reads
-use Rattle.slack.proofs.plan_slot.Reads as plan-slot-reads
 
 abbrev Inv-loop : tie.InvT-loop
 Inv-loop nodes dst due left plan arrivals t late₀ i₀ late i = (i ≤ length left) × (late ≡ late₀) × Sought (traffic nodes dst due) t left i

@@ -10,9 +10,6 @@ use Rattle.table.specs.Steps.{none, rowsOf}
 use Rattle.table.proofs.Judging.{judge-here, judge-next, judge-end, rows-long, rows-at}
 use Rattle.table.proofs.judge_rows.Statement.{statement}
 use Rattle.table.proofs.judge_rows.Tie as tie
-use Rattle.table.proofs.judge_rows.Reads as reads
-use Rattle.table.proofs.judge_rows.Lts as lts
-use Rattle.table.proofs.row_refusal.Reads as row-refusal-reads
 
 abbrev Inv-loop : tie.InvT-loop
 Inv-loop nodes src dst due i₀ i = (i ≤ length src) × (judgeRows nodes (rowsOf src dst due) 0 ≡ judgeRows nodes (drop i (rowsOf src dst due)) i)

@@ -9,9 +9,6 @@ use Rattle.lists.proofs.Filling.{filled, filled-more, filled-all}
 use Rattle.ring.specs.Ring.{distance}
 use Rattle.table.proofs.measure.Statement.{statement}
 use Rattle.table.proofs.measure.Tie as tie
-use Rattle.table.proofs.measure.Reads as reads
-use Rattle.table.proofs.measure.Lts as lts
-use Rattle.ring.proofs.links_between.Reads as links-between-reads
 
 abbrev Inv-loop : tie.InvT-loop
 Inv-loop nodes src dst left₀ i₀ left i = (i ≤ length left₀) × (length left ≡ length left₀) × (left ≡ filled (λ j. distance nodes (getD src j 0) (getD dst j 0)) left₀ i)

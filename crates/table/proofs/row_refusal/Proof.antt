@@ -4,8 +4,6 @@ use borrow.Author.Tests.{le-leb, lt-leb, eq-eqb, ne-eqb, lt-ltb, le-ltb}
 use Rattle.table.specs.Table.{rowRefusal}
 use Rattle.table.proofs.row_refusal.Statement.{statement}
 use Rattle.table.proofs.row_refusal.Tie as tie
-use Rattle.table.proofs.row_refusal.Reads as reads
-use Rattle.table.proofs.row_refusal.Lts as lts
 
 returns : tie.Need-returns
 unfolding rowRefusal

@@ -8,8 +8,6 @@ use Rattle.text.specs.Steps.{tenth}
 use Rattle.text.proofs.Pasting.{tenth-more, tenth-done}
 use Rattle.text.proofs.digit.Statement.{statement}
 use Rattle.text.proofs.digit.Tie as tie
-use Rattle.text.proofs.digit.Reads as reads
-use Rattle.text.proofs.digit.Lts as lts
 
 abbrev Inv-loop : tie.InvT-loop
 Inv-loop v behind rest₀ i₀ rest i = (i ≤ behind) × (tenth behind v ≡ tenth (behind - i) rest)

@@ -6,9 +6,6 @@ use borrow.Author.Needs.{needs}
 use Rattle.text.proofs.Counting.{Read, none-read, value-fits, ended, below, above, further}
 use Rattle.text.proofs.figures_at.Statement.{statement}
 use Rattle.text.proofs.figures_at.Tie as tie
-use Rattle.text.proofs.figures_at.Reads as reads
-use Rattle.text.proofs.figures_at.Lts as lts
-use Rattle.text.proofs.lesser.Reads as lesser-reads
 
 abbrev Inv-loop : tie.InvT-loop
 Inv-loop text at most value₀ i₀ value i = Read text at value i

@@ -1,14 +1,10 @@
 -- `text::item_byte` meets its contract: a byte of the key, a digit, or the mark.
 -- Assumes nothing.
-use mathlib.Core.Path.{_≡_, _∙_}
+use mathlib.Core.Path.{_∙_}
 use Rattle.text.proofs.Pasting.{key-byte, digit-byte, end-byte}
 use borrow.Author.Needs.{needs}
 use Rattle.text.proofs.item_byte.Statement.{statement}
 use Rattle.text.proofs.item_byte.Tie as tie
-use Rattle.text.proofs.item_byte.Reads as reads
-use Rattle.text.proofs.item_byte.Lts as lts
-use Rattle.text.proofs.digit.Reads as digit-reads
-use Rattle.text.proofs.width_of.Reads as width-of-reads
 
 shared-slice-read-result : tie.Need-shared-slice-read-result
 shared-slice-read-result c = search needs

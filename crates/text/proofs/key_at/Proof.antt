@@ -9,8 +9,6 @@ use Rattle.text.specs.Text.{starts}
 use Rattle.text.proofs.Front.{starts-from, starts-past, starts-next, starts-differ, starts-end}
 use Rattle.text.proofs.key_at.Statement.{statement}
 use Rattle.text.proofs.key_at.Tie as tie
-use Rattle.text.proofs.key_at.Reads as reads
-use Rattle.text.proofs.key_at.Lts as lts
 
 abbrev Inv-loop : tie.InvT-loop
 Inv-loop text at key i₀ i = (i ≤ length key) × (starts key (drop at text) ≡ starts (drop i key) (drop (at + i) text))

@@ -1,18 +1,12 @@
 -- `text::line_at` meets its contract: each return is one law of a line.
 -- Assumes nothing.
-use mathlib.Core.Path.{_≡_, _∙_, sym}
+use mathlib.Core.Path.{_∙_, sym}
 use native.Mathlib.Omega.{arith}
 use borrow.Author.Tests.{not-true, not-false}
-use lib.ListN.{length, drop}
 use Rattle.text.proofs.Lines.{no-key, key-inside, figures-inside, seen-great, seen-other, seen-no-end, seen-other-end, seen-good}
 use borrow.Author.Needs.{needs}
 use Rattle.text.proofs.line_at.Statement.{statement}
 use Rattle.text.proofs.line_at.Tie as tie
-use Rattle.text.proofs.line_at.Reads as reads
-use Rattle.text.proofs.line_at.Lts as lts
-use Rattle.text.proofs.figures_at.Reads as figures-at-reads
-use Rattle.text.proofs.key_at.Reads as key-at-reads
-use Rattle.text.proofs.width_of.Reads as width-of-reads
 
 key-at-requires : tie.Need-key-at-requires
 key-at-requires c κs = search needs

@@ -6,9 +6,6 @@ use Rattle.text.proofs.Lines.{line-length}
 use borrow.Author.Needs.{needs}
 use Rattle.text.proofs.line_length.Statement.{statement}
 use Rattle.text.proofs.line_length.Tie as tie
-use Rattle.text.proofs.line_length.Reads as reads
-use Rattle.text.proofs.line_length.Lts as lts
-use Rattle.text.proofs.width_of.Reads as width-of-reads
 
 width-of-requires : tie.Need-width-of-requires
 width-of-requires c κs = search needs

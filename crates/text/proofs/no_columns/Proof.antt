@@ -4,9 +4,6 @@ use Rattle.text.proofs.Parsing.{no-columns-are}
 use borrow.Author.Needs.{needs}
 use Rattle.text.proofs.no_columns.Statement.{statement}
 use Rattle.text.proofs.no_columns.Tie as tie
-use Rattle.text.proofs.no_columns.Reads as reads
-use Rattle.text.proofs.no_columns.Lts as lts
-use Rattle.text.proofs.zeros.Reads as zeros-reads
 
 zeros-requires : tie.Need-zeros-requires
 zeros-requires c κs = search needs

@@ -4,12 +4,6 @@ use Rattle.text.proofs.Parsing.{none-parsed, some-parsed}
 use borrow.Author.Needs.{needs}
 use Rattle.text.proofs.parse.Statement.{statement}
 use Rattle.text.proofs.parse.Tie as tie
-use Rattle.text.proofs.parse.Reads as reads
-use Rattle.text.proofs.parse.Lts as lts
-use Rattle.text.proofs.no_columns.Reads as no-columns-reads
-use Rattle.text.proofs.read_columns.Reads as read-columns-reads
-use Rattle.text.proofs.rows_filled.Reads as rows-filled-reads
-use Rattle.text.proofs.zeros.Reads as zeros-reads
 
 zeros-requires : tie.Need-zeros-requires
 zeros-requires c κs = search needs

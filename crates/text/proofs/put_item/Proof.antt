@@ -10,10 +10,6 @@ use Rattle.text.specs.Text.{item}
 use Rattle.text.proofs.Pasting.{item-as-long, put-more, put-all}
 use Rattle.text.proofs.put_item.Statement.{statement}
 use Rattle.text.proofs.put_item.Tie as tie
-use Rattle.text.proofs.put_item.Reads as reads
-use Rattle.text.proofs.put_item.Lts as lts
-use Rattle.text.proofs.item_byte.Reads as item-byte-reads
-use Rattle.text.proofs.line_length.Reads as line-length-reads
 
 abbrev Inv-loop : tie.InvT-loop
 Inv-loop area₀ at key v mark n j₀ area j = (j ≤ n) × (length area ≡ length area₀) × (area ≡ paste area₀ at (item key v mark) j) × (n ≡ length (item key v mark))

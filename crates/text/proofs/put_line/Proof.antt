@@ -4,9 +4,6 @@ use Rattle.text.specs.Text.{line}
 use borrow.Author.Needs.{needs}
 use Rattle.text.proofs.put_line.Statement.{statement}
 use Rattle.text.proofs.put_line.Tie as tie
-use Rattle.text.proofs.put_line.Reads as reads
-use Rattle.text.proofs.put_line.Lts as lts
-use Rattle.text.proofs.put_item.Reads as put-item-reads
 
 put-item-requires : tie.Need-put-item-requires
 unfolding line

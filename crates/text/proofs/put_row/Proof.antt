@@ -9,9 +9,6 @@ use Rattle.text.proofs.Placing.{two-fits, three-fits, three-placed}
 use borrow.Author.Needs.{needs}
 use Rattle.text.proofs.put_row.Statement.{statement}
 use Rattle.text.proofs.put_row.Tie as tie
-use Rattle.text.proofs.put_row.Reads as reads
-use Rattle.text.proofs.put_row.Lts as lts
-use Rattle.text.proofs.put_line.Reads as put-line-reads
 
 slice-aggregate-put-line : tie.Need-slice-aggregate-put-line
 slice-aggregate-put-line c = search needs

@@ -1,15 +1,11 @@
 -- `text::put_rows` meets its contract: after i turns the lines of the first i rows stand at their place.
 -- Assumes nothing.
 use Prim.Native.Nat.{_-_}
-use native.Mathlib.Omega.{arith}
 use borrow.Author.Needs.{needs}
 use Rattle.text.specs.Steps.{held}
 use Rattle.text.proofs.Placing.{Filled, none-filled, next-fits, more-filled, filled-long, all-filled}
 use Rattle.text.proofs.put_rows.Statement.{statement}
 use Rattle.text.proofs.put_rows.Tie as tie
-use Rattle.text.proofs.put_rows.Reads as reads
-use Rattle.text.proofs.put_rows.Lts as lts
-use Rattle.text.proofs.put_row.Reads as put-row-reads
 
 abbrev Inv-loop : tie.InvT-loop
 Inv-loop area₀ from rows src dst due at₀ i₀ area at i = Filled area₀ from rows (held src dst due) area at i

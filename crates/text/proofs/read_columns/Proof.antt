@@ -7,11 +7,6 @@ use Rattle.text.proofs.Heading.{refused-read, first-wrong, second-wrong
 use borrow.Author.Needs.{needs}
 use Rattle.text.proofs.read_columns.Statement.{statement}
 use Rattle.text.proofs.read_columns.Tie as tie
-use Rattle.text.proofs.read_columns.Reads as reads
-use Rattle.text.proofs.read_columns.Lts as lts
-use Rattle.text.proofs.line_at.Reads as line-at-reads
-use Rattle.text.proofs.read_rows.Reads as read-rows-reads
-use Rattle.text.proofs.refused.Reads as refused-reads
 
 slice-aggregate-line-at : tie.Need-slice-aggregate-line-at
 slice-aggregate-line-at c = search needs

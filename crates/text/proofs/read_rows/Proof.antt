@@ -6,9 +6,6 @@ use borrow.Author.Needs.{needs}
 use Rattle.text.proofs.Loading.{Loaded, row-broken, row-whole, none-loaded, more-loaded, stopped-at, left-over, all-loaded}
 use Rattle.text.proofs.read_rows.Statement.{statement}
 use Rattle.text.proofs.read_rows.Tie as tie
-use Rattle.text.proofs.read_rows.Reads as reads
-use Rattle.text.proofs.read_rows.Lts as lts
-use Rattle.text.proofs.row_at.Reads as row-at-reads
 
 abbrev Inv-loop : tie.InvT-loop
 Inv-loop text from rows src₀ dst₀ due₀ at₀ line₀ i₀ src dst due at line i = Loaded text from rows src dst due at line i

@@ -5,9 +5,6 @@ use Rattle.text.proofs.Rows.{not-seen, seen-line, broken-first, broken-
 use borrow.Author.Needs.{needs}
 use Rattle.text.proofs.row_at.Statement.{statement}
 use Rattle.text.proofs.row_at.Tie as tie
-use Rattle.text.proofs.row_at.Reads as reads
-use Rattle.text.proofs.row_at.Lts as lts
-use Rattle.text.proofs.line_at.Reads as line-at-reads
 
 slice-aggregate-line-at : tie.Need-slice-aggregate-line-at
 slice-aggregate-line-at c = search needs

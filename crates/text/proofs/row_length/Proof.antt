@@ -6,9 +6,6 @@ use Rattle.text.proofs.Lengths.{line-most, row-length}
 use borrow.Author.Needs.{needs}
 use Rattle.text.proofs.row_length.Statement.{statement}
 use Rattle.text.proofs.row_length.Tie as tie
-use Rattle.text.proofs.row_length.Reads as reads
-use Rattle.text.proofs.row_length.Lts as lts
-use Rattle.text.proofs.line_length.Reads as line-length-reads
 
 slice-aggregate-line-length : tie.Need-slice-aggregate-line-length
 slice-aggregate-line-length c = search needs

@@ -11,9 +11,6 @@ use Rattle.text.specs.Steps.{held}
 use Rattle.text.proofs.Lengths.{rowIn, rows-length-more, rows-most, row-most}
 use Rattle.text.proofs.rows_length.Statement.{statement}
 use Rattle.text.proofs.rows_length.Tie as tie
-use Rattle.text.proofs.rows_length.Reads as reads
-use Rattle.text.proofs.rows_length.Lts as lts
-use Rattle.text.proofs.row_length.Reads as row-length-reads
 
 abbrev Inv-loop : tie.InvT-loop
 Inv-loop rows src dst due sum₀ i₀ sum i = (i ≤ rows) × (sum ≡ length (rowsText (listed i (held src dst due))))

@@ -4,8 +4,6 @@ use borrow.Author.Tests.{lt-ltb, le-ltb}
 use Rattle.text.specs.Text.{width}
 use Rattle.text.proofs.width_of.Statement.{statement}
 use Rattle.text.proofs.width_of.Tie as tie
-use Rattle.text.proofs.width_of.Reads as reads
-use Rattle.text.proofs.width_of.Lts as lts
 
 returns : tie.Need-returns
 unfolding width

@@ -12,13 +12,6 @@ use Rattle.text.proofs.Outcomes.{many-rows, text-length, text-most, no-
 use borrow.Author.Needs.{needs}
 use Rattle.text.proofs.write_columns.Statement.{statement}
 use Rattle.text.proofs.write_columns.Tie as tie
-use Rattle.text.proofs.write_columns.Reads as reads
-use Rattle.text.proofs.write_columns.Lts as lts
-use Rattle.text.proofs.line_length.Reads as line-length-reads
-use Rattle.text.proofs.not_written.Reads as not-written-reads
-use Rattle.text.proofs.put_line.Reads as put-line-reads
-use Rattle.text.proofs.put_rows.Reads as put-rows-reads
-use Rattle.text.proofs.rows_length.Reads as rows-length-reads
 
 not-written-requires : tie.Need-not-written-requires
 not-written-requires c κs = search needs
