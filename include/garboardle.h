@@ -49,7 +49,7 @@ struct garboardle_answer {
     uint32_t sends; /* sends: the sum of all distances */
     uint32_t sum;   /* sum of the delivery instants */
     double mean;    /* mean delay: sum / rows */
-    double share;   /* used share: sends / (nodes * largest due slot) */
+    double share;   /* used share: sends / (nodes * last) */
 };
 
 /* Plans the table of rows by the rule of least slack.

@@ -147,7 +147,7 @@ pub fn plan(
     if rows.is_empty() {
         return Answer::default();
     }
-    let (mean, share) = (sum as f64 / rows.len() as f64, sends as f64 / needed as f64);
+    let (mean, share) = (sum as f64 / rows.len() as f64, sends as f64 / (n * t) as f64);
     Answer {
         number: 0,
         row: 0,

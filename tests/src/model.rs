@@ -167,14 +167,15 @@ pub fn plan(nodes: u16, rows: &[Row], plan: &mut [u16], arrivals: &mut [u16]) ->
         return Answer::default();
     }
     let sum: u32 = arrivals.iter().map(|&a| u32::from(a)).sum();
+    let last = *arrivals.iter().max().unwrap();
     Answer {
         number: 0,
         row: 0,
         slot: 0,
-        last: *arrivals.iter().max().unwrap(),
+        last,
         sends,
         sum,
         mean: f64::from(sum) / rows.len() as f64,
-        share: f64::from(sends) / needed as f64,
+        share: f64::from(sends) / f64::from(u32::from(nodes) * u32::from(last)),
     }
 }

@@ -83,7 +83,7 @@ fn the_sweep_table() {
             sends: 3,
             sum: 4,
             mean: 2.0,
-            share: 0.25
+            share: 0.375
         }
     );
     let b = accepted(
@@ -136,7 +136,7 @@ fn the_paper_s_table_1() {
     let a = accepted(5, table, &plan, &[4, 5, 2, 4, 4]);
     // the evacuation time and the average delay that section 2 defines
     assert_eq!((a.last, a.sends, a.sum), (5, 12, 19));
-    assert_eq!((a.mean, a.share), (19.0 / 5.0, 12.0 / 30.0));
+    assert_eq!((a.mean, a.share), (19.0 / 5.0, 12.0 / 25.0));
     // with M12's delivery at 5 as the due slot of all, the last slot has none to spare; with 4 there is no schedule
     let a = accepted(5, &table.replace("/6", "/5"), &plan[..25], &[4, 5, 2, 4, 4]);
     assert_eq!(a.last, 5);

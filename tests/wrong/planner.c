@@ -144,15 +144,15 @@ struct garboardle_answer garboardle_plan(uint16_t nodes, const struct garboardle
     }
     if (rows_len == 0)
         return refused(0, 0, 0);
-    struct garboardle_answer a = {0, 0, 0, (uint16_t)last, sends, sum, (double)sum / (double)rows_len, (double)sends / (double)needed};
+    struct garboardle_answer a = {0, 0, 0, (uint16_t)last, sends, sum, (double)sum / (double)rows_len, (double)sends / (double)(n * last)};
 #if WRONG == 23 /* rounded twice */
     a.mean = (float)a.mean;
-#elif WRONG == 24 /* the share of the slots until the last delivery */
-    a.share = (double)sends / (double)(n * last);
+#elif WRONG == 24 /* the share of all slots up to the largest due one */
+    a.share = (double)sends / (double)needed;
 #elif WRONG == 25 /* sends as the used entries and one */
     a.sends++;
 #elif WRONG == 26 /* the quotient by way of an inverse */
-    a.share = (double)sends * (1.0 / (double)needed);
+    a.share = (double)sends * (1.0 / (double)(n * last));
 #endif
     return a;
 }

@@ -36,16 +36,16 @@ module _ {T : Traffic} {start plan₀ arrivals₀ plan′ arrivals′ : List ℕ
         arrives = ran .arrives ∙ ap (λ s. cond (eqb (s .row) 0) (arrivalsOf T start last) (replicate (length start) 0)) (ran .stops);
       }
 
-  pub run-accepted : stop .row ≡ 0 → (sends : ℕ) → sends ≡ total start → (s : Summary) → s ≡ summaryOf (length arrivals′) sends (length plan₀) arrivals′
+  pub run-accepted : stop .row ≡ 0 → (sends : ℕ) → sends ≡ total start → (most : ℕ) → most ≡ largest arrivals′ → (s : Summary) → s ≡ summaryOf (length arrivals′) sends (T .nodes * most) arrivals′
       → RunPlanned T start (length plan₀) (Accepted s) plan′ arrivals′
   unfolding answerToRun
-  run-accepted on-time sends e s sums = areas (Accepted s) (ap Accepted (sums ∙ figures) ∙ rw (on-time))
+  run-accepted on-time sends e most m s sums = areas (Accepted s) (ap Accepted (sums ∙ figures) ∙ rw (on-time))
     where
       there : arrivals′ ≡ arrivalsOf T start last
       there = ran .arrives ∙ rw on-time
 
-      figures : summaryOf (length arrivals′) sends (length plan₀) arrivals′ ≡ summaryOf (length start) (total start) (T .nodes * last) (arrivalsOf T start last)
-      figures = rw (there, arrivals-long T start last, e, k .ready .room)
+      figures : summaryOf (length arrivals′) sends (T .nodes * most) arrivals′ ≡ summaryOf (length start) (total start) (T .nodes * largest (arrivalsOf T start last)) (arrivalsOf T start last)
+      figures = rw (m, there, arrivals-long T start last, e)
 
   pub run-refused : (stop .row ≡ 0 → ⊥) → RunPlanned T start (length plan₀) (Refused (refuse 9 (stop .row) (stop .slot .0))) plan′ arrivals′
   unfolding answerToRun

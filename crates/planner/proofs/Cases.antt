@@ -49,7 +49,7 @@ case nodes rows answer plan arrivals = record { nodes = nodes; rows = rows; answ
 cases : List Case
 cases =
     -- A
-    case 4 (row 0 2 3 ∷ row 0 1 2 ∷ []) (accepted 2 3 4 (fin false 1 (pos 1)) (fin false 1 (negsuc 1)))
+    case 4 (row 0 2 3 ∷ row 0 1 2 ∷ []) (accepted 2 3 4 (fin false 1 (pos 1)) (fin false 3 (negsuc 2)))
     (1 ∷ 0 ∷ 0 ∷ 0 ∷ 2 ∷ 1 ∷ 0 ∷ 0 ∷ 0 ∷ 0 ∷ 0 ∷ 0 ∷ sevens 8) (2 ∷ 2 ∷ sevens 2)
     -- B
     ∷ case 4 (row 0 1 2 ∷ row 0 3 3 ∷ []) (accepted 3 4 5 (fin false 5 (negsuc 0)) (fin false 6004799503160661 (negsuc 53)))

@@ -4,27 +4,32 @@
 --     accepted-plan-is-a-schedule    an accepted table's plan is such a schedule
 --     late-names-the-first           refusal 9 names the first instant with a late row, and its lowest such row
 --     sends-are-entries              the sends are the sum of all distances, and as many entries of the plan name a row
+--     last-above-zero                a table with a row has its last delivery after instant 0, so the used share divides by no 0
 -- Assumes nothing.
 use mathlib.Core.Path.{_≡_, refl, _∙_, ap, sym}
 use mathlib.Core.Logic.{_↔_}
 use Prim.Native.Nat.{ℕ, zero, suc, _≤_, _<_}
 use native.Mathlib.Omega.{arith}
 use native.Mathlib.Nat.{mul-comm}
-use mathlib.Core.Bool.{cond}
+use mathlib.Core.Bool.{Bool, true, false, cond}
 use mathlib.Core.List.{List, _++_}
-use borrow.Author.Tests.{le-ltb, ne-eqb}
+use borrow.Author.Tests.{lt-ltb, le-ltb, ne-eqb}
 use lib.Dec.{eqb, eqb·suc-zero}
-use lib.ListN.{length, getD, take, drop}
+use lib.ListN.{length, getD, take, drop, length-map, List·getD-map}
 use lib.Seq.{take-at}
-use Rattle.lists.specs.Lists.{total}
+use Rattle.lists.specs.Lists.{build, total, largest}
+use Rattle.lists.proofs.Build.{getD-build}
+use Rattle.ring.specs.Ring.{distance}
 use Rattle.lists.proofs.Figures.{at-most-largest}
 use Rattle.table.specs.declared.Row.{Row}
 use Rattle.table.specs.declared.Refusal.{Refusal}
 use Rattle.table.specs.declared.Verdict.the-variants as verdict
 use Rattle.table.specs.Table.{WellFormed, judgeRows, refuse, destinations, dues, distances, lastDue}
-use Rattle.table.specs.Steps.{sources, rowsOf}
+use Rattle.table.specs.Steps.{none, sources, rowsOf}
 use Rattle.table.proofs.Rows.{rows-of-columns, same-rows}
-use Rattle.slack.specs.Slack.{Traffic, OnRing, planOf, stateAt, lateRow, stopOf}
+use Rattle.table.proofs.Judging.{good-rows}
+use Rattle.slack.specs.Slack.{Traffic, OnRing, underWay, planOf, stateAt, deliveredFrom, arrivalsOf, lateRow, stopOf}
+use Rattle.slack.specs.Steps.{AllUnderWay}
 use Rattle.slack.proofs.Walking.{plan-length}
 use Rattle.slack.proofs.Rule.{LowestLate, late-lowest}
 use Rattle.slack.proofs.Ending.{stop-first}
@@ -36,7 +41,7 @@ use Rattle.planner.specs.declared.Answer.the-variants.{Accepted, Refused
 use Rattle.planner.specs.Planner.{trafficOf, planRoom, ending, thePlan, theArrivals, theSummary, answerToRows, afterVerdict, theAnswer, numberOf, areaAfter, Planned, ScheduleOf, Plannable}
 use Rattle.planner.specs.Steps.{Tabled}
 use Rattle.planner.proofs.Judged.{sound}
-use Rattle.planner.proofs.Good.{on-ring, its-start}
+use Rattle.planner.proofs.Good.{on-ring, under-way, its-start}
 
 -- Two outcomes that fit the promise are equal: the answer, and every entry of both areas.
 pub one-outcome : {n : ℕ} {rows : List Row} {plan arrivals plan₁ arrivals₁ plan₂ arrivals₂ : List ℕ} {r₁ r₂ : Answer}
@@ -55,10 +60,12 @@ module _ (n : ℕ) (rows : List Row) (well : WellFormed n rows) where
   pub all-good : judgeRows n (rowsOf (sources rows) (destinations rows) (dues rows)) 0 ≡ verdict.Good
   all-good = rw (rows-of-columns rows) (sound n rows well .each)
 
+  its-links : distances n rows ≡ build (length (sources rows)) (λ i. distance n (getD (sources rows) i 0) (getD (destinations rows) i 0))
+  its-links = ap (distances n) (sym (rows-of-columns rows)) ∙ its-start n (sources rows) (destinations rows) (dues rows) tabled all-good
+
   table-on-ring : OnRing (trafficOf n rows) (distances n rows)
   table-on-ring =
-      let e = ap (distances n) (sym (rows-of-columns rows)) ∙ its-start n (sources rows) (destinations rows) (dues rows) tabled all-good in
-      rw e (on-ring n (sources rows) (destinations rows) (dues rows) tabled all-good)
+      rw its-links (on-ring n (sources rows) (destinations rows) (dues rows) tabled all-good)
 
   due-in-time : (i : ℕ) → i < length (distances n rows) → getD (dues rows) i 0 ≤ lastDue rows
   unfolding lastDue
@@ -146,3 +153,51 @@ module _ {n : ℕ} {rows : List Row} {plan arrivals plan′ arrivals′ : List �
       lowest : (m : ℕ) → m ≡ lateRow T t (stateAt T start t) → (m ≡ 0 → ⊥) → (i : ℕ) × (m ≡ suc i) × LowestLate T t (stateAt T start t) i
       lowest zero f some = absurd (some refl)
       lowest (suc i) f some = (i, refl, late-lowest T t (stateAt T start t) i (sym f))
+
+distances-long : (n : ℕ) (rows : List Row) → length (distances n rows) ≡ length rows
+unfolding distances
+distances-long n rows = length-map rows _
+
+first-due : (rows : List Row) → getD (dues rows) 0 0 ≡ getD rows 0 none .due
+unfolding dues
+first-due rows = List·getD-map (λ r. r .due) rows 0 none
+
+-- A delivery instant lies no earlier than the instant from which it is looked for.
+from-there : (T : Traffic) (start : List ℕ) (i m t : ℕ) → t ≤ deliveredFrom T start i m t
+unfolding deliveredFrom
+from-there T start i zero t = omega arith
+from-there T start i (suc m) t = go (underWay (stateAt T start t) i) (from-there T start i m (suc t))
+  where
+    go : (b : Bool) → suc t ≤ deliveredFrom T start i m (suc t) → t ≤ cond b (deliveredFrom T start i m (suc t)) t
+    go true later = omega arith
+    go false later = omega arith
+
+-- A row under way at instant 0 is delivered later.
+not-at-once : (T : Traffic) (start : List ℕ) (i slots : ℕ) → 0 < getD start i 0 → 0 < slots → 0 < deliveredFrom T start i slots 0
+unfolding deliveredFrom underWay stateAt
+not-at-once T start i zero some h = absurd (omega arith)
+not-at-once T start i (suc m) some h = rw (lt-ltb 0 (getD start i 0) some) (from-there T start i m 1)
+
+-- The last delivery of a well-formed table that has a row is after instant 0: the used share divides by no 0.
+pub last-above-zero : (n : ℕ) (rows : List Row) → WellFormed n rows → 0 < length rows → 0 < largest (theArrivals n rows)
+unfolding theArrivals arrivalsOf lastDue
+last-above-zero n rows well some =
+    omega (arith, at-most-largest arrivals 0, getD-build (length start) when 0 0 there, not-at-once (trafficOf n rows) start 0 (lastDue rows) (going 0 there) due-later)
+  where
+    start : List ℕ
+    start = distances n rows
+
+    when : ℕ → ℕ
+    when i = deliveredFrom (trafficOf n rows) start i (lastDue rows) 0
+
+    arrivals : List ℕ
+    arrivals = build (length start) when
+
+    there : 0 < length start
+    there = omega (arith, distances-long n rows)
+
+    going : AllUnderWay start
+    going = rw (its-links n rows well) (under-way n (sources rows) (destinations rows) (dues rows) (tabled n rows well) (all-good n rows well))
+
+    due-later : 0 < lastDue rows
+    due-later = omega (arith, good-rows n rows 0 (sound n rows well .each) 0 some .due-some, first-due rows, at-most-largest (dues rows) 0)

@@ -43,20 +43,20 @@ theArrivals n rows = arrivalsOf (trafficOf n rows) (distances n rows) (lastDue r
 unfoldable pub quotient : ℕ → ℕ → Float
 quotient a b = cond (eqb b 0) (ofBits binary64 0) (div binary64 (ofInt binary64 (pos a)) (ofInt binary64 (pos b)))
 
--- A summary: last delivery instant, sends, sum of the delivery instants, mean delay and used share.
-unfoldable pub summaryOf : (rows sends entries : ℕ) → (arrivals : List ℕ) → Summary
-summaryOf rows sends entries arrivals =
+-- A summary: last delivery instant, sends, sum of the delivery instants, mean delay and used share of the link time.
+unfoldable pub summaryOf : (rows sends time : ℕ) → (arrivals : List ℕ) → Summary
+summaryOf rows sends time arrivals =
     record {
       last = record { 0 = largest arrivals };
       sends = sends;
       sum = total arrivals;
       mean = quotient (total arrivals) rows;
-      share = quotient sends entries;
+      share = quotient sends time;
     }
 
--- The summary of a table: its sends are the sum of all distances, and its entries those of its plan.
+-- The summary of a table: its sends are the sum of all distances, and link time counts on N links until the last delivery instant.
 unfoldable pub theSummary : ℕ → List Row → Summary
-theSummary n rows = summaryOf (length rows) (total (distances n rows)) (planRoom n rows) (theArrivals n rows)
+theSummary n rows = summaryOf (length rows) (total (distances n rows)) (n * largest (theArrivals n rows)) (theArrivals n rows)
 
 -- The answer to a well-formed table: 7 and 8 for the room lent, then 9 for a late row, else acceptance.
 unfoldable pub answerToRows : ℕ → List Row → (plan-lent arrivals-lent : ℕ) → Answer
@@ -79,7 +79,7 @@ unfoldable pub numberOf : Answer → ℕ
 numberOf (Accepted s) = 0
 numberOf (Refused r) = r .number
 
--- What an area holds after an answer: the list given where the table is accepted, as many zeros where it is late, and in front of what was there behind them.
+-- What an area holds after an answer: the list given where the table is accepted, as many zeros where it is late, each with what stood behind it; else what it held before.
 unfoldable pub areaAfter : Answer → (given before : List ℕ) → List ℕ
 areaAfter (Accepted s) given before = given ++ drop (length given) before
 areaAfter (Refused r) given before =

@@ -27,7 +27,7 @@ pub record Runnable (T : Traffic) (left plan arrivals : List ℕ) : Type 0 where
 unfoldable pub answerToRun : Traffic → List ℕ → Stop → Answer
 answerToRun T start stop =
     cond (eqb (stop .row) 0)
-    (Accepted (summaryOf (length start) (total start) (T .nodes * largest (T .due)) (arrivalsOf T start (largest (T .due)))))
+    (Accepted (summaryOf (length start) (total start) (T .nodes * largest (arrivalsOf T start (largest (T .due)))) (arrivalsOf T start (largest (T .due)))))
     (Refused (refuse 9 (stop .row) (stop .slot .0)))
 
 -- What planning a run in areas of just its size gives.

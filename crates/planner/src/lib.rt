@@ -44,9 +44,9 @@ fn divide(a: u32, b: u32) -> f64
 }
 
 // The figures of a run in which every row arrived.
-fn sum_up(sends: u32, entries: u32, arrivals: &[u16]) -> Summary
+fn sum_up(sends: u32, time: u32, arrivals: &[u16]) -> Summary
     requires { ⌜ length (now arrivals) ≤ 512 ⌝ }
-    ensures { λ r. ⌜ r ≡ summaryOf (length (now (arrivals .entry))) sends entries (now (arrivals .entry)) ⌝ }
+    ensures { λ r. ⌜ r ≡ summaryOf (length (now (arrivals .entry))) sends time (now (arrivals .entry)) ⌝ }
 {
     let last = greatest(arrivals);
     let sum = sum(arrivals);
@@ -56,7 +56,7 @@ fn sum_up(sends: u32, entries: u32, arrivals: &[u16]) -> Summary
         sends,
         sum,
         mean: divide(sum, rows),
-        share: divide(sends, entries),
+        share: divide(sends, time),
     }
 }
 
@@ -73,10 +73,10 @@ fn plan_run(
     ensures { λ r. ⌜ RunPlanned (traffic nodes (now (dst .entry)) (now (due .entry))) (now (left .entry)) (length (now (plan .entry))) r (now (plan .exit)) (now (arrivals .exit)) ⌝ }
 {
     let sends = sum(left);
-    let entries = plan.len() as u32;
     let stop = run(nodes, dst, due, left, plan, arrivals);
     if stop.row == 0 {
-        Answer::Accepted(sum_up(sends, entries, arrivals))
+        let time = nodes as u32 * greatest(arrivals) as u32;
+        Answer::Accepted(sum_up(sends, time, arrivals))
     } else {
         let slot = stop.slot;
         Answer::Refused(Refusal {

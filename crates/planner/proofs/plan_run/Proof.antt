@@ -1,6 +1,8 @@
 -- `planner::plan_run` meets its contract: what the run came to is what is answered.
 -- Assumes nothing.
+use Prim.Native.Nat.{_≤_}
 use native.Mathlib.Omega.{arith}
+use native.Mathlib.Nat.{mul-le-mul}
 use Rattle.planner.proofs.Answering.{run-accepted, run-refused}
 use borrow.Author.Needs.{needs}
 use Rattle.planner.proofs.plan_run.Statement.{statement}
@@ -9,11 +11,20 @@ use Rattle.planner.proofs.plan_run.Tie as tie
 sum-requires : tie.Need-sum-requires
 sum-requires c κs = search needs
 
-cast-entries : tie.Need-cast-entries
-cast-entries c = search needs
-
 run-requires : tie.Need-run-requires
 run-requires c κs = search needs
+
+greatest-requires : tie.Need-greatest-requires
+greatest-requires c κs = search needs
+
+cast-time : tie.Need-cast-time
+cast-time c = search needs
+
+mul-time : tie.Need-mul-time
+mul-time c =
+    let most : c .greatest .result ≤ 65535 = omega (arith, c .greatest .ok) in
+    let nodes : c .before .before .before .before .before .before .before .before .before .before .before .before .before .before .before .before .before .before .before .before .before .args .nodes ≤ 65535 = omega (arith, c .before .before .before .before .before .before .before .before .before .before .before .before .before .before .before .before .before .before .before .before .before .fits .nodes) in
+    omega (arith, mul-le-mul nodes most)
 
 sum-up-requires : tie.Need-sum-up-requires
 sum-up-requires c κs = search needs
@@ -28,7 +39,7 @@ same-length-3 : tie.Need-same-length-3
 same-length-3 c = search needs
 
 returns : tie.Need-returns
-returns c = run-accepted (c .before .before .before .before .before .before .before .before .before .before .before .before .before .before .before .before .before .before .before .before .before .pre) (c .before .before .before .before .before .before .before .before .before .before .run .ensures) (omega arith) _ (c .before .before .before .before .before .before .before .before .before .before .before .before .before .before .sum .ensures) _ (c .sum-up .ensures)
+returns c = run-accepted (c .before .before .before .before .before .before .before .before .before .before .before .before .before .before .before .before .before .before .before .before .before .before .before .pre) (c .before .before .before .before .before .before .before .before .before .before .before .before .run .ensures) (omega arith) _ (c .before .before .before .before .before .before .before .before .before .before .before .before .before .before .before .before .sum .ensures) _ (c .before .before .greatest .ensures) _ (c .sum-up .ensures)
 
 same-length-4 : tie.Need-same-length-4
 same-length-4 c = search needs
@@ -47,8 +58,10 @@ plan-run-spec =
     tie.close
     (tie.spec
     sum-requires
-    cast-entries
     run-requires
+    greatest-requires
+    cast-time
+    mul-time
     sum-up-requires
     same-length
     same-length-2
