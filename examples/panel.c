@@ -1,11 +1,16 @@
 /* An operator's path: enter a table, plan it, look at the plan; then meet a refusal, mend it, and meet a late table; then
-   keep the table as text, read it back, and meet a wrong line. */
+   keep the table as text, read it back, and meet a wrong line; then edit a table row by row with the load of each link in
+   view, and plan it. */
 #include "garboardle.h"
 
 #include <stdio.h>
+#include <string.h>
 
 static uint16_t plan[GARBOARDLE_MOST_ENTRIES];
+static uint16_t plan_afresh[GARBOARDLE_MOST_ENTRIES];
 static uint16_t arrivals[GARBOARDLE_MOST_ARRIVALS];
+static uint16_t arrivals_afresh[GARBOARDLE_MOST_ARRIVALS];
+static struct garboardle_table desk;
 static struct garboardle_row kept[GARBOARDLE_MOST_ROWS];
 static uint8_t text[GARBOARDLE_LONGEST_TEXT];
 
@@ -23,6 +28,7 @@ static const char *const words[] = {
     "plan area too short",
     "arrivals area too short",
     "late",
+    [12] = "no such row",
     [20] = "wrong line",
     [21] = "list too short",
     [22] = "area too short",
@@ -47,14 +53,9 @@ static void show_plan(uint16_t nodes, unsigned slots)
     }
 }
 
-static void operate(const char *what, uint16_t nodes, const struct garboardle_row *rows, size_t count)
+/* What planning these rows came to. */
+static void show_answer(struct garboardle_answer a, uint16_t nodes, const struct garboardle_row *rows, size_t count)
 {
-    printf("%s: %u nodes\n", what, (unsigned)nodes);
-    for (size_t i = 0; i < count; i++)
-        printf("  row %zu: %u to %u, due %u\n", i + 1, (unsigned)rows[i].src, (unsigned)rows[i].dst, (unsigned)rows[i].due);
-
-    struct garboardle_answer a =
-        garboardle_plan(nodes, rows, count, plan, LENGTH(plan), arrivals, LENGTH(arrivals));
     printf("  answer %u (%s), row %u, slot %u\n", (unsigned)a.number, words[a.number], (unsigned)a.row, (unsigned)a.slot);
     if (a.number != 0)
         return;
@@ -64,6 +65,14 @@ static void operate(const char *what, uint16_t nodes, const struct garboardle_ro
         printf("  row %zu is there at %u\n", i + 1, (unsigned)arrivals[i]);
     printf("  last %u, sends %lu, sum %lu, mean %.4f, share %.4f\n", (unsigned)a.last, (unsigned long)a.sends,
            (unsigned long)a.sum, a.mean, a.share);
+}
+
+static void operate(const char *what, uint16_t nodes, const struct garboardle_row *rows, size_t count)
+{
+    printf("%s: %u nodes\n", what, (unsigned)nodes);
+    for (size_t i = 0; i < count; i++)
+        printf("  row %zu: %u to %u, due %u\n", i + 1, (unsigned)rows[i].src, (unsigned)rows[i].dst, (unsigned)rows[i].due);
+    show_answer(garboardle_plan(nodes, rows, count, plan, LENGTH(plan), arrivals, LENGTH(arrivals)), nodes, rows, count);
 }
 
 /* Reads a text of that length, and plans the table that it holds. */
@@ -94,6 +103,58 @@ static void keep(uint16_t nodes, const struct garboardle_row *rows, size_t count
     printf("50 bytes lent, 51 needed: answer %u (%s)\n", (unsigned)w.number, words[w.number]);
 }
 
+/* The edited table as the panel draws it: its rows, the load of each link, and the busiest one. */
+static void show_desk(void)
+{
+    for (unsigned number = 1; number <= garboardle_row_count(&desk); number++) {
+        struct garboardle_row_answer r = garboardle_row_of(&desk, (uint16_t)number);
+        printf("  row %u: %u to %u, due %u\n", number, (unsigned)r.src, (unsigned)r.dst, (unsigned)r.due);
+    }
+    printf("  loads:");
+    for (unsigned p = 0; p < desk.nodes; p++)
+        printf(" %u", (unsigned)garboardle_link_load(&desk, (uint16_t)p));
+    struct garboardle_link b = garboardle_busiest(&desk);
+    printf(", the busiest is link %u with %u\n", (unsigned)b.link, (unsigned)b.load);
+}
+
+/* What an edit came to: the table as it is now, or why it is as it was. */
+static void report(const char *what, struct garboardle_edit_answer a)
+{
+    printf("%s: answer %u (%s), row %u\n", what, (unsigned)a.number, words[a.number], (unsigned)a.row);
+    if (a.number == 0)
+        show_desk();
+}
+
+/* Edits a table, with three edits that are refused and change nothing. */
+static void edit(void)
+{
+    report("open", garboardle_open(&desk, 4));
+    report("add", garboardle_add(&desk, (struct garboardle_row){0, 1, 2}));
+    report("add", garboardle_add(&desk, (struct garboardle_row){0, 3, 3}));
+    report("add", garboardle_add(&desk, (struct garboardle_row){2, 1, 6}));
+    report("add from node 4", garboardle_add(&desk, (struct garboardle_row){4, 1, 2}));
+    report("change row 4", garboardle_change(&desk, 4, (struct garboardle_row){1, 3, 4}));
+    report("remove row 0", garboardle_remove(&desk, 0));
+    report("change row 1", garboardle_change(&desk, 1, (struct garboardle_row){1, 3, 4}));
+    report("remove row 2", garboardle_remove(&desk, 2));
+}
+
+/* Plans the edited table, then the same rows entered afresh, and compares what came of both. */
+static void plan_edited(void)
+{
+    struct garboardle_row rows[] = {{1, 3, 4}, {2, 1, 6}};
+    struct garboardle_answer a = garboardle_plan_table(&desk, plan, LENGTH(plan), arrivals, LENGTH(arrivals));
+    struct garboardle_answer b =
+        garboardle_plan(4, rows, LENGTH(rows), plan_afresh, LENGTH(plan_afresh), arrivals_afresh, LENGTH(arrivals_afresh));
+    printf("edited: %u nodes, %u rows\n", (unsigned)desk.nodes, (unsigned)desk.rows);
+    show_answer(a, desk.nodes, desk.row, desk.rows);
+
+    size_t entries = 4 * largest_due(rows, LENGTH(rows));
+    int same = memcmp(&a, &b, sizeof a) == 0 && memcmp(plan, plan_afresh, entries * sizeof plan[0]) == 0 &&
+               memcmp(arrivals, arrivals_afresh, LENGTH(rows) * sizeof arrivals[0]) == 0;
+    printf("entered afresh: %s\n", same ? "the same plan" : "another plan");
+}
+
 int main(void)
 {
     struct garboardle_row table[] = {{0, 1, 2}, {0, 3, 3}};
@@ -114,5 +175,8 @@ int main(void)
 
     table[0].due = 4;
     keep(4, table, LENGTH(table));
+
+    edit();
+    plan_edited();
     return 0;
 }

@@ -1,5 +1,5 @@
 /* Plans a slotted ring: which message each link carries in each slot, so that every message is in time; reads and writes
-   its table as text. Link with libpanel.a (docs/PANEL.md says how to build it). */
+   its table as text; edits a table row by row. Link with libpanel.a (docs/PANEL.md says how to build it). */
 #ifndef GARBOARDLE_H
 #define GARBOARDLE_H
 
@@ -11,6 +11,7 @@ extern "C" {
 #endif
 
 #define GARBOARDLE_MOST_NODES 32
+#define GARBOARDLE_MOST_LINKS GARBOARDLE_MOST_NODES
 #define GARBOARDLE_MOST_ROWS 512
 #define GARBOARDLE_LATEST_DUE 1024
 
@@ -105,6 +106,95 @@ struct garboardle_read_answer garboardle_read(const uint8_t *text, size_t text_l
    is null, not even with length 0, and they do not overlap. */
 struct garboardle_write_answer garboardle_write(uint16_t nodes, const struct garboardle_row *rows, size_t rows_len,
                                                 uint8_t *area, size_t area_len);
+
+/* A table that is edited row by row, with the load of each link: how many rows cross it on their way from source up to
+   destination, round node 0. Link p leads out of node p.
+
+   The panel owns the area, 3,140 bytes without gaps, and lends it for each call; nothing is kept of it after the call. The
+   panel may read every field at any time, and hand row and rows to garboardle_plan and garboardle_write, but it writes to
+   none: the functions keep load in step with row, and zeros behind the last row. */
+struct garboardle_table {
+    uint16_t nodes;
+    uint16_t rows;                                   /* number of rows */
+    uint16_t load[GARBOARDLE_MOST_LINKS];            /* load[p] is that of link p; zeros from nodes on */
+    struct garboardle_row row[GARBOARDLE_MOST_ROWS]; /* row[i] is row i + 1 */
+};
+
+/* Opening, editing and showing a row are refused so, checked in this order; the first that holds is given. A refused call
+   leaves the whole area as it was.
+
+   number  given when                                                             row
+   1       nodes outside 2 to 32: those given to opening, else those of the area  0
+   2       adding where 512 rows are there, or an area that says more than 512    0
+   12      changing, removing or showing a row that is not there                  the number asked for
+   3       source not below nodes                                                 row
+   4       destination not below nodes                                            row
+   5       source equals destination                                              row
+   6       due slot outside 1 to 1,024                                            row
+
+   3 to 6 are about the row that is given: to adding, under its coming number, or to changing, under the number asked for.
+   An area of zeros that was never opened gives 1. */
+
+/* The answer of opening and editing. Done: all three are 0. Refused: number says why, row says where, and slot is 0. */
+struct garboardle_edit_answer {
+    uint16_t number;
+    uint16_t row;
+    uint16_t slot;
+};
+
+/* The answer of showing a row. Shown: number, row and slot are 0. Refused: src, dst and due are 0, and so is slot. */
+struct garboardle_row_answer {
+    uint16_t number;
+    uint16_t row;
+    uint16_t slot;
+    uint16_t src;
+    uint16_t dst;
+    uint16_t due;
+};
+
+/* A link, and how many rows cross it. */
+struct garboardle_link {
+    uint16_t link;
+    uint16_t load;
+};
+
+/* In all functions below the table is lent for the call. It is never null, and may hold any numbers: an area that nobody
+   opened a table in, or that somebody damaged, is refused with 1 or 2, or edited as it stands. There a load that would
+   pass 0 or 65,535 stays; where only these functions wrote to the area, none would. */
+
+/* Opens an empty table for so many nodes, whatever the area held: every other number becomes 0. */
+struct garboardle_edit_answer garboardle_open(struct garboardle_table *table, uint16_t nodes);
+
+/* Adds a row at the end, and counts it on the links of its way; no other load changes. */
+struct garboardle_edit_answer garboardle_add(struct garboardle_table *table, struct garboardle_row row);
+
+/* Puts a row in the place of row number, and counts the old one out and the new one in; no load changes but on the links
+   of these two ways. */
+struct garboardle_edit_answer garboardle_change(struct garboardle_table *table, uint16_t number,
+                                                struct garboardle_row row);
+
+/* Removes row number, and counts it out: later rows move down one number, and zeros come in behind the last. */
+struct garboardle_edit_answer garboardle_remove(struct garboardle_table *table, uint16_t number);
+
+/* The number of rows. */
+uint16_t garboardle_row_count(const struct garboardle_table *table);
+
+/* Row number, for the operator to see. */
+struct garboardle_row_answer garboardle_row_of(const struct garboardle_table *table, uint16_t number);
+
+/* How many rows cross a link, 0 for a link that the ring does not have. */
+uint16_t garboardle_link_load(const struct garboardle_table *table, uint16_t link);
+
+/* The busiest link, the lowest on a tie, and its load: link 0 with load 0 for an empty table. */
+struct garboardle_link garboardle_busiest(const struct garboardle_table *table);
+
+/* Plans an edited table: the answer and both areas are those of garboardle_plan for the same nodes and rows, with 1 and 2
+   for an area whose nodes or rows are so.
+
+   plan and arrivals are lent as to garboardle_plan: neither is null, and they overlap neither each other nor the table,
+   which is only read. */
+struct garboardle_answer garboardle_plan_table(const struct garboardle_table *table, uint16_t *plan, size_t plan_len,
+                                               uint16_t *arrivals, size_t arrivals_len);
 
 #ifdef __cplusplus
 }

@@ -18,6 +18,13 @@ _Static_assert(offsetof(struct garboardle_answer, mean) == 16 && offsetof(struct
 _Static_assert(sizeof(struct garboardle_read_answer) == 8 && sizeof(struct garboardle_write_answer) == 16, "sizes");
 _Static_assert(offsetof(struct garboardle_read_answer, line) == 2 && offsetof(struct garboardle_read_answer, nodes) == 4, "reading");
 _Static_assert(offsetof(struct garboardle_read_answer, rows) == 6 && offsetof(struct garboardle_write_answer, length) == 8, "writing");
+_Static_assert(sizeof(struct garboardle_table) == 3140 && sizeof(struct garboardle_edit_answer) == 6, "sizes");
+_Static_assert(sizeof(struct garboardle_row_answer) == 12 && sizeof(struct garboardle_link) == 4, "sizes");
+_Static_assert(offsetof(struct garboardle_table, nodes) == 0 && offsetof(struct garboardle_table, rows) == 2, "a table");
+_Static_assert(offsetof(struct garboardle_table, load) == 4 && offsetof(struct garboardle_table, row) == 68, "a table");
+_Static_assert(offsetof(struct garboardle_edit_answer, row) == 2 && offsetof(struct garboardle_edit_answer, slot) == 4, "editing");
+_Static_assert(offsetof(struct garboardle_row_answer, src) == 6 && offsetof(struct garboardle_row_answer, due) == 10, "a row");
+_Static_assert(offsetof(struct garboardle_link, link) == 0 && offsetof(struct garboardle_link, load) == 2, "a link");
 END
 gcc -std=c99 $warnings -O2 -Iinclude examples/panel.c "$archive" -o "$out/panel"
 "$out/panel" > "$out/panel.out"

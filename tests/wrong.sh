@@ -1,23 +1,30 @@
 #!/usr/bin/env bash
 # wrong.sh [FIRST [LAST]]: holds the tests themselves to account: functions in C pass them, and each of their faulty kin is
-# turned away. Up to 28 it is the planner that is faulty, from 29 on the reader or the writer.
+# turned away. Up to 28 it is the planner that is faulty, from 29 on the reader or the writer, from 57 on what edits a table.
 set -euo pipefail
 cd "$(dirname "$0")/.."
 planners=28
-most=56
+texts=56
+most=127
 export CARGO_TARGET_DIR=$PWD/tests/target/wrong
 mkdir -p "$CARGO_TARGET_DIR"
 failed=0
 for k in $(seq "${1:-0}" "${2:-$most}"); do
     lib=$CARGO_TARGET_DIR/lib
     mkdir -p "$lib"
-    gcc -std=c99 -O2 -Wall -Wextra -Werror -Iinclude -DWRONG="$k" -c tests/wrong/planner.c -o "$lib/planner.o"
-    gcc -std=c99 -O2 -Wall -Wextra -Werror -Iinclude -DWRONG="$k" -c tests/wrong/text.c -o "$lib/text.o"
     rm -f "$lib/libpanel.a"
-    ar rcs "$lib/libpanel.a" "$lib/planner.o" "$lib/text.o"
-    tests="--test guarded --test text"
-    if [ "$k" -le "$planners" ]; then
+    for part in planner text edit; do
+        gcc -std=c99 -O2 -Wall -Wextra -Werror -Iinclude -DWRONG="$k" -c tests/wrong/$part.c -o "$lib/$part.o"
+        ar rcs "$lib/libpanel.a" "$lib/$part.o"
+    done
+    if [ "$k" -eq 0 ]; then
+        tests="--test guarded --test worked --test refused --test small --test large --test text --test edit"
+    elif [ "$k" -le "$planners" ]; then
         tests="--test guarded --test worked --test refused --test small --test large --test text"
+    elif [ "$k" -le "$texts" ]; then
+        tests="--test guarded --test text"
+    else
+        tests="--test edit --test guarded"
     fi
     status=0
     PANEL_LIB=$lib timeout 300 cargo test --release --offline --locked --manifest-path tests/Cargo.toml \

@@ -12,13 +12,21 @@ use std::sync::atomic::{AtomicU64, Ordering};
 /// What came of the tables tried, by name.
 pub type Tally = BTreeMap<&'static str, usize>;
 
-pub type Kind = fn(&mut Random) -> Result<&'static str, String>;
+/// What came of one table, or what is wrong with it.
+pub type Outcome = Result<&'static str, String>;
+
+pub type Kind = fn(&mut Random) -> Outcome;
 
 /// The seed of the table that is being tried, for a test whose process may end in the midst of it.
 pub static UNDER_TEST: AtomicU64 = AtomicU64::new(0);
 
 /// Runs `count` tables of a kind from a first seed on, or just the one of the variable SEED, and counts what came of them.
-pub fn each(test: &str, kind: Kind, first: u64, count: u64) -> Tally {
+pub fn each(
+    test: &str,
+    mut kind: impl FnMut(&mut Random) -> Outcome,
+    first: u64,
+    count: u64,
+) -> Tally {
     let (first, count) = match std::env::var("SEED") {
         Ok(seed) => (seed.parse().expect("SEED is no number"), 1),
         Err(_) => (first, count),
@@ -37,7 +45,8 @@ pub fn each(test: &str, kind: Kind, first: u64, count: u64) -> Tally {
     tally
 }
 
-fn row(random: &mut Random, nodes: u16, due: impl FnOnce(&mut Random, usize) -> usize) -> Row {
+/// A row between two nodes of the ring, due as `due` says of its distance.
+pub fn row(random: &mut Random, nodes: u16, due: impl FnOnce(&mut Random, usize) -> usize) -> Row {
     let src = random.node(nodes);
     let distance = random.within(1, nodes as usize - 1);
     let dst = ((src as usize + distance) % nodes as usize) as u16;

@@ -98,7 +98,7 @@ fn refused(number: u16, row: u16, slot: u16) -> Answer {
 }
 
 /// What is wrong with one row.
-fn fault(nodes: u16, row: &Row) -> Option<u16> {
+pub fn fault(nodes: u16, row: &Row) -> Option<u16> {
     if row.src >= nodes {
         Some(3)
     } else if row.dst >= nodes {

@@ -56,6 +56,42 @@ pub struct WriteAnswer {
     pub length: usize,
 }
 
+/// Numbers of an area that holds a table for editing.
+pub const TABLE: usize = 1_570;
+
+/// The place of link 0's load in such an area, and of row 1.
+pub const LOADS: usize = 2;
+pub const ROWS: usize = 34;
+
+/// `struct garboardle_table` as the plain numbers that it is: nodes, rows, 32 loads, and 512 rows of three.
+pub type Table = [u16; TABLE];
+
+#[repr(C)]
+#[derive(Clone, Copy, Debug, Default, PartialEq, Eq)]
+pub struct EditAnswer {
+    pub number: u16,
+    pub row: u16,
+    pub slot: u16,
+}
+
+#[repr(C)]
+#[derive(Clone, Copy, Debug, Default, PartialEq, Eq)]
+pub struct RowAnswer {
+    pub number: u16,
+    pub row: u16,
+    pub slot: u16,
+    pub src: u16,
+    pub dst: u16,
+    pub due: u16,
+}
+
+#[repr(C)]
+#[derive(Clone, Copy, Debug, Default, PartialEq, Eq)]
+pub struct Link {
+    pub link: u16,
+    pub load: u16,
+}
+
 extern "C" {
     pub fn garboardle_plan(
         nodes: u16,
@@ -81,6 +117,23 @@ extern "C" {
         area: *mut u8,
         area_len: usize,
     ) -> WriteAnswer;
+
+    pub fn garboardle_open(table: *mut Table, nodes: u16) -> EditAnswer;
+    pub fn garboardle_add(table: *mut Table, row: Row) -> EditAnswer;
+    pub fn garboardle_change(table: *mut Table, number: u16, row: Row) -> EditAnswer;
+    pub fn garboardle_remove(table: *mut Table, number: u16) -> EditAnswer;
+    pub fn garboardle_row_count(table: *const Table) -> u16;
+    pub fn garboardle_row_of(table: *const Table, number: u16) -> RowAnswer;
+    pub fn garboardle_link_load(table: *const Table, link: u16) -> u16;
+    pub fn garboardle_busiest(table: *const Table) -> Link;
+
+    pub fn garboardle_plan_table(
+        table: *const Table,
+        plan: *mut u16,
+        plan_len: usize,
+        arrivals: *mut u16,
+        arrivals_len: usize,
+    ) -> Answer;
 }
 
 pub fn plan(nodes: u16, rows: &[Row], plan: &mut [u16], arrivals: &mut [u16]) -> Answer {
@@ -112,6 +165,53 @@ pub fn write(nodes: u16, rows: &[Row], area: &mut [u8]) -> WriteAnswer {
             rows.len(),
             area.as_mut_ptr(),
             area.len(),
+        )
+    }
+}
+
+// Safe, all that follow: each function asks nothing but an area of that many numbers, and borrows it for the call alone.
+
+pub fn open(table: &mut Table, nodes: u16) -> EditAnswer {
+    unsafe { garboardle_open(table, nodes) }
+}
+
+pub fn add(table: &mut Table, row: Row) -> EditAnswer {
+    unsafe { garboardle_add(table, row) }
+}
+
+pub fn change(table: &mut Table, number: u16, row: Row) -> EditAnswer {
+    unsafe { garboardle_change(table, number, row) }
+}
+
+pub fn remove(table: &mut Table, number: u16) -> EditAnswer {
+    unsafe { garboardle_remove(table, number) }
+}
+
+pub fn row_count(table: &Table) -> u16 {
+    unsafe { garboardle_row_count(table) }
+}
+
+pub fn row_of(table: &Table, number: u16) -> RowAnswer {
+    unsafe { garboardle_row_of(table, number) }
+}
+
+pub fn link_load(table: &Table, link: u16) -> u16 {
+    unsafe { garboardle_link_load(table, link) }
+}
+
+pub fn busiest(table: &Table) -> Link {
+    unsafe { garboardle_busiest(table) }
+}
+
+pub fn plan_table(table: &Table, plan: &mut [u16], arrivals: &mut [u16]) -> Answer {
+    // Safe: the slices overlap neither each other nor the table.
+    unsafe {
+        garboardle_plan_table(
+            table,
+            plan.as_mut_ptr(),
+            plan.len(),
+            arrivals.as_mut_ptr(),
+            arrivals.len(),
         )
     }
 }

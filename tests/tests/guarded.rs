@@ -1,9 +1,12 @@
 //! The lent lists with pages on both sides that may not be touched: a read or a write past an end, by one byte, ends the test.
 #![cfg(target_os = "linux")]
 
+use panel_tests::area::Area;
 use panel_tests::cases::{each, large_table, Dues, UNDER_TEST};
+use panel_tests::desk::hold_shown;
+use panel_tests::edits::{any_area, edit_of};
 use panel_tests::model;
-use panel_tests::panel::{self, Row};
+use panel_tests::panel::{self, Row, Table};
 use panel_tests::random::Random;
 use panel_tests::text;
 use panel_tests::texts::{any_table, any_text};
@@ -76,6 +79,12 @@ impl<T: Copy> Guarded<T> {
 
     fn entries(&mut self) -> &mut [T] {
         unsafe { std::slice::from_raw_parts_mut(self.first, self.len) }
+    }
+}
+
+impl Guarded<u16> {
+    fn table(&mut self) -> &mut Table {
+        self.entries().try_into().unwrap()
     }
 }
 
@@ -172,6 +181,42 @@ fn guarded_writing(random: &mut Random) -> Result<&'static str, String> {
     })
 }
 
+fn guarded_editing(random: &mut Random) -> Result<&'static str, String> {
+    let mut area = Area(any_area(random));
+    let mut lent = Guarded::new(&area.0, random.once_in(2));
+    let table = lent.table();
+    for _ in 0..6 {
+        let edit = edit_of(random, table);
+        let (answer, expected) = (edit.call(table), area.edit(edit));
+        if answer != expected || *table != area.0 {
+            return Err(format!(
+                "{edit:?} answers {answer:?}, and the model {expected:?}"
+            ));
+        }
+        hold_shown(random, table, &area)?;
+    }
+    let rows = area.rows();
+    let needed = model::entries(area.nodes(), &rows).min(32 * 1024);
+    let mut plan = random.pattern(needed);
+    let mut arrivals = random.pattern(rows.len());
+    let mut lent_plan = Guarded::new(&plan, random.once_in(2));
+    let mut lent_arrivals = Guarded::new(&arrivals, random.once_in(2));
+    let answer = panel::plan_table(table, lent_plan.entries(), lent_arrivals.entries());
+    let expected = model::plan(area.nodes(), &rows, &mut plan, &mut arrivals);
+    if answer != expected || lent_plan.entries() != plan || lent_arrivals.entries() != arrivals {
+        return Err(format!("plans {answer:?}, and the model {expected:?}"));
+    }
+    let nodes = [1, 2, 32, 33][random.within(0, 3)];
+    if panel::open(table, nodes) != area.open(nodes) || *table != area.0 {
+        return Err(format!("opening for {nodes} nodes"));
+    }
+    Ok(if answer.number == 0 {
+        "planned"
+    } else {
+        "not planned"
+    })
+}
+
 /// A touch of a guarded page: says which table it was, and ends the process.
 extern "C" fn touched(_: i32) {
     let mut line = [0; 160];
@@ -191,4 +236,5 @@ fn nothing_past_the_lent_lists() {
     each("guarded", guarded, 3_000_000, 1_500);
     each("guarded", guarded_reading, 6_000_000, 3_000);
     each("guarded", guarded_writing, 7_000_000, 3_000);
+    each("guarded", guarded_editing, 8_300_000, 4_000);
 }

@@ -2,8 +2,13 @@
 #![cfg(target_arch = "x86_64")]
 
 use panel_tests::cases::{large_table, Dues};
+use panel_tests::edit::{Edit, Entered};
+use panel_tests::edits::{any_area, edit_of};
 use panel_tests::panel::{
-    self, garboardle_plan, garboardle_read, garboardle_write, Answer, ReadAnswer, Row, WriteAnswer,
+    self, garboardle_add, garboardle_busiest, garboardle_change, garboardle_link_load,
+    garboardle_open, garboardle_plan, garboardle_plan_table, garboardle_read, garboardle_remove,
+    garboardle_row_count, garboardle_row_of, garboardle_write, Answer, ReadAnswer, Row, Table,
+    WriteAnswer,
 };
 use panel_tests::random::Random;
 use panel_tests::texts::{any_table, any_text};
@@ -12,6 +17,8 @@ use panel_tests::texts::{any_table, any_text};
 const LIMIT: usize = 16 * 1024;
 
 const STACK: usize = 256 * 1024;
+
+const PAINTS: [u64; 2] = [0x5a5a_a5a5_5a5a_a5a5, 0xffff_0001_fffe_0203];
 
 /// A painted stack, and the place of its top, which is even for sixteen bytes.
 fn painted(paint: u64) -> (Vec<u64>, usize) {
@@ -62,57 +69,75 @@ fn used(
     (depth(&stack, top, paint) + 16, answer)
 }
 
-fn used_by_read(text: &[u8], rows: &mut [Row], paint: u64) -> (usize, ReadAnswer) {
+/// Calls a function that takes at most six words on a stack of its own: how many bytes it used, and the two words that it answers in.
+fn used_by(function: *const (), words: [u64; 6], paint: u64) -> (usize, [u64; 2]) {
     let (mut stack, top) = painted(paint);
-    let word: u64;
+    let mut answer = [0; 2];
     unsafe {
         std::arch::asm!(
             "xchg rsp, r12",
-            "call {read}",
+            "call r13",
             "mov rsp, r12",
-            read = sym garboardle_read,
             inout("r12") stack.as_mut_ptr().add(top) => _,
-            in("rdi") text.as_ptr(),
-            in("rsi") text.len(),
-            in("rdx") rows.as_mut_ptr(),
-            in("rcx") rows.len(),
-            out("rax") word,
+            in("r13") function,
+            in("rdi") words[0],
+            in("rsi") words[1],
+            inout("rdx") words[2] => answer[1],
+            in("rcx") words[3],
+            in("r8") words[4],
+            in("r9") words[5],
+            out("rax") answer[0],
             clobber_abi("C"),
         );
     }
-    let answer = ReadAnswer {
-        number: word as u16,
-        line: (word >> 16) as u16,
-        nodes: (word >> 32) as u16,
-        rows: (word >> 48) as u16,
-    };
     (depth(&stack, top, paint), answer)
 }
 
-fn used_by_write(nodes: u16, rows: &[Row], area: &mut [u8], paint: u64) -> (usize, WriteAnswer) {
-    let (mut stack, top) = painted(paint);
-    let (number, length): (u64, usize);
-    unsafe {
-        std::arch::asm!(
-            "xchg rsp, r12",
-            "call {write}",
-            "mov rsp, r12",
-            write = sym garboardle_write,
-            inout("r12") stack.as_mut_ptr().add(top) => _,
-            in("rdi") nodes as u64 | 0xdead_beef_cafe_0000,
-            in("rsi") rows.as_ptr(),
-            inout("rdx") rows.len() => length,
-            in("rcx") area.as_mut_ptr(),
-            in("r8") area.len(),
-            out("rax") number,
-            clobber_abi("C"),
-        );
-    }
-    let answer = WriteAnswer {
-        number: number as u16,
-        length,
+/// The first numbers of an answer's two words.
+fn numbers<const N: usize>(words: [u64; 2]) -> [u16; N] {
+    std::array::from_fn(|i| (words[i / 4] >> (16 * (i % 4))) as u16)
+}
+
+/// A word with these numbers in its low bits, and paint above them, which is anyone's.
+fn word(numbers: &[u16], paint: u64) -> u64 {
+    let place = |(i, &number): (usize, &u16)| u64::from(number) << (16 * i);
+    let low: u64 = numbers.iter().enumerate().map(place).sum();
+    low | paint << (16 * numbers.len())
+}
+
+fn used_by_read(text: &[u8], rows: &mut [Row], paint: u64) -> (usize, ReadAnswer) {
+    let words = [
+        text.as_ptr() as u64,
+        text.len() as u64,
+        rows.as_mut_ptr() as u64,
+        rows.len() as u64,
+        0,
+        0,
+    ];
+    let (bytes, answer) = used_by(garboardle_read as *const (), words, paint);
+    let [number, line, nodes, rows] = numbers(answer);
+    let answer = ReadAnswer {
+        number,
+        line,
+        nodes,
+        rows,
     };
-    (depth(&stack, top, paint), answer)
+    (bytes, answer)
+}
+
+fn used_by_write(nodes: u16, rows: &[Row], area: &mut [u8], paint: u64) -> (usize, WriteAnswer) {
+    let words = [
+        word(&[nodes], paint),
+        rows.as_ptr() as u64,
+        rows.len() as u64,
+        area.as_mut_ptr() as u64,
+        area.len() as u64,
+        0,
+    ];
+    let (bytes, answer) = used_by(garboardle_write as *const (), words, paint);
+    let [number] = numbers(answer);
+    let length = answer[1] as usize;
+    (bytes, WriteAnswer { number, length })
 }
 
 #[test]
@@ -122,7 +147,7 @@ fn reading_and_writing_too() {
     for _ in 0..400 {
         let (text, lent) = any_text(&mut random);
         let mut rows = random.records(lent);
-        for paint in [0x5a5a_a5a5_5a5a_a5a5, 0xffff_0001_fffe_0203] {
+        for paint in PAINTS {
             let (bytes, answer) = used_by_read(&text, &mut rows, paint);
             assert_eq!(answer, panel::read(&text, &mut rows));
             accepted[0] += usize::from(answer.number == 0);
@@ -130,7 +155,7 @@ fn reading_and_writing_too() {
         }
         let (nodes, rows, _, room) = any_table(&mut random);
         let mut area = random.bytes(room);
-        for paint in [0x5a5a_a5a5_5a5a_a5a5, 0xffff_0001_fffe_0203] {
+        for paint in PAINTS {
             let (bytes, answer) = used_by_write(nodes, &rows, &mut area, paint);
             assert_eq!(answer, panel::write(nodes, &rows, &mut area));
             accepted[1] += usize::from(answer.number == 0);
@@ -165,7 +190,7 @@ fn at_most_16_kib() {
             );
         }
         let lent = if random.once_in(10) { 0 } else { plan.len() };
-        for paint in [0x5a5a_a5a5_5a5a_a5a5, 0xffff_0001_fffe_0203] {
+        for paint in PAINTS {
             let (bytes, answer) = used(nodes, &rows, &mut plan[..lent], &mut arrivals, paint);
             assert_eq!(
                 answer,
@@ -177,5 +202,105 @@ fn at_most_16_kib() {
     }
     println!("stack: {deepest} bytes at the deepest; calls by answer: {numbers:?}");
     assert!(numbers[0] > 0 && numbers[9] > 0);
+    assert!(deepest <= LIMIT);
+}
+
+fn used_by_edit(edit: Edit, table: &mut Table, paint: u64) -> (usize, [u16; 3]) {
+    let number = |number: u16| word(&[number], paint);
+    let row = |row: Row| word(&[row.src, row.dst, row.due], paint);
+    let (function, first, second) = match edit {
+        Edit::Add(r) => (garboardle_add as *const (), row(r), paint),
+        Edit::Change(k, r) => (garboardle_change as *const (), number(k), row(r)),
+        Edit::Remove(k) => (garboardle_remove as *const (), number(k), paint),
+    };
+    let words = [table.as_mut_ptr() as u64, first, second, 0, 0, 0];
+    let (bytes, answer) = used_by(function, words, paint);
+    (bytes, numbers(answer))
+}
+
+fn used_by_open(nodes: u16, table: &mut Table, paint: u64) -> (usize, [u16; 3]) {
+    let words = [table.as_mut_ptr() as u64, word(&[nodes], paint), 0, 0, 0, 0];
+    let (bytes, answer) = used_by(garboardle_open as *const (), words, paint);
+    (bytes, numbers(answer))
+}
+
+/// The deepest of the four functions that show something, each of which must answer as when it is called plainly.
+fn used_by_showing(table: &Table, asked: u16, paint: u64) -> usize {
+    let words = [table.as_ptr() as u64, word(&[asked], paint), 0, 0, 0, 0];
+    let call = |function: *const ()| used_by(function, words, paint);
+    let (count, answer) = call(garboardle_row_count as _);
+    assert_eq!(numbers(answer), [panel::row_count(table)]);
+    let (load, answer) = call(garboardle_link_load as _);
+    assert_eq!(numbers(answer), [panel::link_load(table, asked)]);
+    let (busiest, answer) = call(garboardle_busiest as _);
+    let found = panel::busiest(table);
+    assert_eq!(numbers(answer), [found.link, found.load]);
+    let (row, answer) = call(garboardle_row_of as _);
+    let a = panel::row_of(table, asked);
+    assert_eq!(
+        numbers(answer),
+        [a.number, a.row, a.slot, a.src, a.dst, a.due]
+    );
+    count.max(load).max(busiest).max(row)
+}
+
+#[test]
+fn editing_too() {
+    let mut random = Random::new(24);
+    let (mut editing, mut showing, mut opening, mut done) = (0, 0, 0, 0);
+    for _ in 0..400 {
+        let area = any_area(&mut random);
+        let edit = edit_of(&mut random, &area);
+        let asked = random.within(0, 40) as u16;
+        for paint in PAINTS {
+            showing = used_by_showing(&area, asked, paint).max(showing);
+            let (mut table, mut plainly) = (area, area);
+            let (bytes, answer) = used_by_edit(edit, &mut table, paint);
+            let a = edit.call(&mut plainly);
+            assert_eq!(answer, [a.number, a.row, a.slot]);
+            assert_eq!(table, plainly);
+            done += usize::from(a.number == 0);
+            editing = bytes.max(editing);
+            let (bytes, answer) = used_by_open(asked, &mut table, paint);
+            let a = panel::open(&mut plainly, asked);
+            assert_eq!(answer, [a.number, a.row, a.slot]);
+            assert_eq!(table, plainly);
+            opening = bytes.max(opening);
+        }
+    }
+    println!("stack: {editing} bytes at the deepest for an edit, {opening} for opening, {showing} for showing; done: {done}");
+    assert!(done > 0);
+    assert!(editing.max(opening).max(showing) <= LIMIT);
+}
+
+#[test]
+fn planning_an_edited_table_too() {
+    let (mut plan, mut arrivals) = (vec![0; 32 * 1024], vec![0; 512]);
+    let (mut deepest, mut tables) = (0, [0; 10]);
+    let mut random = Random::new(25);
+    for round in 0..200 {
+        let nodes = [2, 3, 17, 32][round % 4];
+        let count = [0, 1, 40, 511, 512][random.within(0, 4)];
+        let dues = [Dues::Loose, Dues::Tight, Dues::Cut][random.within(0, 2)];
+        let rows = large_table(&mut random, nodes, count, dues);
+        let table = Entered { nodes, rows }.area();
+        for paint in PAINTS {
+            let mut answer = Answer::default();
+            let words = [
+                &raw mut answer as u64,
+                table.as_ptr() as u64,
+                plan.as_mut_ptr() as u64,
+                plan.len() as u64,
+                arrivals.as_mut_ptr() as u64,
+                arrivals.len() as u64,
+            ];
+            let (bytes, _) = used_by(garboardle_plan_table as *const (), words, paint);
+            assert_eq!(answer, panel::plan_table(&table, &mut plan, &mut arrivals));
+            tables[answer.number as usize] += 1;
+            deepest = bytes.max(deepest);
+        }
+    }
+    println!("stack: {deepest} bytes at the deepest for planning an edited table; calls by answer: {tables:?}");
+    assert!(tables[0] > 0 && tables[9] > 0);
     assert!(deepest <= LIMIT);
 }

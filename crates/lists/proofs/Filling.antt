@@ -1,14 +1,17 @@
 -- A list that is filled from the front by a rule, one store a turn: after i turns it is `build i f ++ drop i d`.
 --     filled-none, filled-more, filled-all      at the start; one store more; at the end
+--     filled-whole                              at the end, the length told by an equation
 --     filled-long                               it keeps its length
+--     filled-past                               what stands past the stores is as it came
 -- Assumes nothing.
-use mathlib.Core.Path.{_≡_, refl, _∙_, ap}
-use Prim.Native.Nat.{ℕ, zero, suc, _+_, _≤_, _<_}
+use mathlib.Core.Path.{_≡_, refl, _∙_, ap, sym}
+use Prim.Native.Nat.{ℕ, zero, suc, _+_, _-_, _≤_, _<_}
 use native.Mathlib.Nat.{not-suc-le-zero}
 use native.Mathlib.Numerals.{add-one}
 use native.Mathlib.Omega.{arith}
 use mathlib.Core.List.{List, [], _∷_, _++_, append-nil}
-use lib.ListN.{length, set, drop, length-append, length-drop, drop-of-length-le}
+use lib.ListN.{length, getD, set, drop, length-append, length-drop, drop-of-length-le}
+use lib.Seq.{getD-append-add, getD-drop}
 use Rattle.lists.specs.Lists.{build}
 use Rattle.lists.proofs.Build.{length-build}
 
@@ -32,3 +35,12 @@ module _ {ℓ} {A : Type ℓ} where
 
   pub filled-all : (f : ℕ → A) (d : List A) → filled f d (length d) ≡ build (length d) f
   filled-all f d = rw (drop-of-length-le d {i = length d} (omega arith), append-nil)
+
+  pub filled-whole : (f : ℕ → A) (d : List A) (i n : ℕ) → i ≡ n → length d ≡ n → filled f d i ≡ build n f
+  filled-whole f d i n e h = rw (e, sym h) (filled-all f d)
+
+  pub filled-past : (f : ℕ → A) (d : List A) (i j : ℕ) (e : A) → i ≤ j → getD (filled f d i) j e ≡ getD d j e
+  filled-past f d i j e h =
+      let sum : j ≡ length (build i f) + (j - i) = omega (arith, length-build i f) in
+      let back : i + (j - i) ≡ j = omega arith in
+      ap (λ (k : ℕ). getD (filled f d i) k e) sum ∙ getD-append-add (build i f) (drop i d) (j - i) e ∙ getD-drop i d (j - i) e ∙ ap (λ (k : ℕ). getD d k e) back

@@ -43,3 +43,10 @@ pub fn greatest(part: &[u16]) -> u16
     }
     most
 }
+
+// A place for each row that a table may have, all 0.
+pub fn zeros() -> [u16; 512]
+    ensures { λ r. ⌜ r ≡ replicate {A = ℕ} 512 0 ⌝ }
+{
+    [0u16; 512]
+}

@@ -1,19 +1,27 @@
--- A proved outcome whose answer is flattened is the panel's: `flat-planned`, `flat-read` and `flat-written`.
--- Two outcomes that fit one call are equal: `one-answer`, `one-plan` and `one-arrivals` of planning, `one-reading` and `one-rows` of reading, `one-writing` and `one-area` of writing.
+-- A proved outcome whose answer is flattened is the panel's: `flat-planned`, `held-planned`, `flat-read`, `flat-written`, `flat-opened` and `flat-edited`.
+-- Two outcomes that fit one call are equal: `one-answer`, `one-plan` and `one-arrivals` of planning, `one-reading` and `one-rows` of reading, `one-writing` and `one-area` of writing, `one-opening` and `one-edit` of editing.
+-- `edited-plans-alike`: a table that was edited is planned as the same rows entered afresh.
 -- Assumes nothing.
 use mathlib.Core.Path.{_≡_, _∙_, ap, sym}
 use Prim.Native.Nat.{ℕ}
-use mathlib.Core.List.{List}
+use mathlib.Core.List.{List, []}
 use Rattle.table.specs.declared.Row.{Row}
 use Rattle.planner.specs.declared.Answer.{Answer}
 use Rattle.planner.specs.Planner.{Planned, areaAfter, thePlan, theArrivals}
 use Rattle.text.specs.declared.Reading.{Reading}
 use Rattle.text.specs.declared.Writing.{Writing}
 use Rattle.text.specs.Text.{TextTaken, TextPut}
+use Rattle.table.specs.declared.Columns.{Columns}
+use Rattle.table.specs.declared.Verdict.{Verdict}
+use Rattle.table.specs.Steps.{listed}
+use Rattle.edit.specs.Edit.{Edit, Opened, Edited, areaOf, nodesIn, rowsIn, afterEdits, rowsBy}
+use Rattle.edit.proofs.Areas.{nodes-in-area, rows-in-area}
+use Rattle.edit.proofs.Promises.{edits-make-rows}
 use Rattle.panel.specs.declared.PlanAnswer.{PlanAnswer}
+use Rattle.panel.specs.declared.EditAnswer.{EditAnswer}
 use Rattle.panel.specs.declared.ReadAnswer.{ReadAnswer}
 use Rattle.panel.specs.declared.WriteAnswer.{WriteAnswer}
-use Rattle.panel.specs.Panel.{flatOf, flatReading, flatWriting, PanelPlanned, PanelRead, PanelWritten}
+use Rattle.panel.specs.Panel.{flatOf, flatReading, flatWriting, flatVerdict, PanelPlanned, PanelRead, PanelWritten, PanelOpened, PanelEdited}
 
 pub flat-planned : (n : ℕ) (rows : List Row) {p a p′ a′ : List ℕ} {r : Answer} {s : PlanAnswer} → Planned n rows p a r p′ a′ → s ≡ flatOf r → PanelPlanned n rows p a s p′ a′
 flat-planned n rows {p} {a} d e = record {
@@ -22,11 +30,21 @@ flat-planned n rows {p} {a} d e = record {
   fills-arrivals = d .fills-arrivals ∙ ap (λ (x : Answer). areaAfter x (theArrivals n rows) a) (d .answers);
 }
 
+-- columns that hold the rows of a list are planned as that list
+pub held-planned : (n : ℕ) {rows : List Row} {count held : ℕ} (columns : Columns) {p a p′ a′ : List ℕ} {r : Answer} {s : PlanAnswer} → count ≡ held → listed held columns ≡ rows → Planned n (listed count columns) p a r p′ a′ → s ≡ flatOf r → PanelPlanned n rows p a s p′ a′
+held-planned n {rows} columns e holds d f = flat-planned n rows (rw (e, holds) at d) f
+
 pub flat-read : {text : List ℕ} {rows rows′ : List Row} {r : Reading} {s : ReadAnswer} → TextTaken text rows r rows′ → s ≡ flatReading r → PanelRead text rows s rows′
 flat-read d e = record { answers = e ∙ ap flatReading (d .answers); fills = d .fills }
 
 pub flat-written : {n : ℕ} {rows : List Row} {area area′ : List ℕ} {r : Writing} {s : WriteAnswer} → TextPut n rows area r area′ → s ≡ flatWriting r → PanelWritten n rows area s area′
 flat-written d e = record { answers = e ∙ ap flatWriting (d .answers); fills = d .fills }
+
+pub flat-opened : {n : ℕ} {s s′ : List ℕ} {v : Verdict} {r : EditAnswer} → Opened n s v s′ → r ≡ flatVerdict v → PanelOpened n s r s′
+flat-opened d e = record { answers = e ∙ ap flatVerdict (d .answers); fills = d .fills }
+
+pub flat-edited : {s s′ : List ℕ} {e : Edit} {v : Verdict} {r : EditAnswer} → Edited s e v s′ → r ≡ flatVerdict v → PanelEdited s e r s′
+flat-edited d e = record { answers = e ∙ ap flatVerdict (d .answers); fills = d .fills }
 
 -- one call has one outcome: the same numbers, the same plan and the same arrivals
 module _ (n : ℕ) (rows : List Row) {p a p₁ a₁ p₂ a₂ : List ℕ} {s₁ s₂ : PlanAnswer} (d₁ : PanelPlanned n rows p a s₁ p₁ a₁) (d₂ : PanelPlanned n rows p a s₂ p₂ a₂) where
@@ -54,3 +72,21 @@ module _ (n : ℕ) (rows : List Row) {area area₁ area₂ : List ℕ} {s₁ s�
 
   pub one-area : area₁ ≡ area₂
   one-area = d₁ .fills ∙ sym (d₂ .fills)
+
+-- the same numbers and the same area
+module _ (n : ℕ) {s s₁ s₂ : List ℕ} {r₁ r₂ : EditAnswer} (d₁ : PanelOpened n s r₁ s₁) (d₂ : PanelOpened n s r₂ s₂) where
+  pub one-opening : (r₁ ≡ r₂) × (s₁ ≡ s₂)
+  one-opening = (d₁ .answers ∙ sym (d₂ .answers), d₁ .fills ∙ sym (d₂ .fills))
+
+module _ {s s₁ s₂ : List ℕ} {e : Edit} {r₁ r₂ : EditAnswer} (d₁ : PanelEdited s e r₁ s₁) (d₂ : PanelEdited s e r₂ s₂) where
+  pub one-edit : (r₁ ≡ r₂) × (s₁ ≡ s₂)
+  one-edit = (d₁ .answers ∙ sym (d₂ .answers), d₁ .fills ∙ sym (d₂ .fills))
+
+-- Planning a table after any edits gives just what planning the same rows, entered afresh, gives: the same numbers, plan and arrivals.
+pub edited-plans-alike : (n : ℕ) (es : List Edit) {p a p₁ a₁ p₂ a₂ : List ℕ} {r₁ r₂ : PlanAnswer}
+    → PanelPlanned (nodesIn (afterEdits (areaOf n []) es)) (rowsIn (afterEdits (areaOf n []) es)) p a r₁ p₁ a₁
+    → PanelPlanned n (rowsBy n [] es) p a r₂ p₂ a₂
+    → (r₁ ≡ r₂) × (p₁ ≡ p₂) × (a₁ ≡ a₂)
+edited-plans-alike n es {p} {a} {p₁} {a₁} {p₂} {a₂} {r₁} {r₂} d₁ d₂ =
+    let same = rw (edits-make-rows n es, nodes-in-area n (rowsBy n [] es), rows-in-area n (rowsBy n [] es)) at d₁ in
+    (one-answer n (rowsBy n [] es) same d₂, one-plan n (rowsBy n [] es) same d₂, one-arrivals n (rowsBy n [] es) same d₂)

@@ -1,7 +1,9 @@
 -- What the panel's functions give: the proved entry points' outcomes, with answers as plain numbers.
 use Prim.Native.Nat.{ℕ}
 use mathlib.Core.Path.{_≡_}
-use mathlib.Core.List.{List, _++_}
+use mathlib.Core.Bool.{cond}
+use mathlib.Core.List.{List, [], _++_}
+use lib.Dec.{eqb}
 use lib.Ieee.{binary64, ofBits}
 use lib.ListN.{length, drop}
 use Rattle.table.specs.declared.Row.{Row}
@@ -14,7 +16,17 @@ use Rattle.text.specs.declared.Writing.{Writing}
 use Rattle.text.specs.declared.Writing.the-variants.{Written, Refused as NotWritten}
 use Rattle.text.specs.Text as Text
 use Rattle.text.specs.Text.{readingOf, rowsRead, writingOf}
+use Rattle.table.specs.declared.Verdict.{Verdict}
+use Rattle.table.specs.declared.Verdict.the-variants.{Good, Refused as NotGood}
+use Rattle.edit.specs.declared.Entry.{Entry}
+use Rattle.edit.specs.declared.Entry.the-variants.{Shown, Refused as NotShown}
+use Rattle.edit.specs.declared.LinkLoad.{LinkLoad}
+use Rattle.edit.specs.Edit as Edit
+use Rattle.edit.specs.Edit.{Edit, sizeRefusal, editRefusal, aboutRow, verdictBy, areaOf}
 use Rattle.panel.specs.declared.PlanAnswer.{PlanAnswer}
+use Rattle.panel.specs.declared.EditAnswer.{EditAnswer}
+use Rattle.panel.specs.declared.RowAnswer.{RowAnswer}
+use Rattle.panel.specs.declared.LinkAnswer.{LinkAnswer}
 use Rattle.panel.specs.declared.ReadAnswer.{ReadAnswer}
 use Rattle.panel.specs.declared.WriteAnswer.{WriteAnswer}
 
@@ -59,3 +71,27 @@ pub record PanelRead (text : List ℕ) (rows : List Row) (r : ReadAnswer) (rows�
 pub record PanelWritten (n : ℕ) (rows : List Row) (area : List ℕ) (r : WriteAnswer) (area′ : List ℕ) : Type 0 where
   pub answers : r ≡ flatWriting (writingOf n rows (length area))
   pub fills : area′ ≡ Text.areaAfter n rows area
+
+-- A verdict as plain numbers: all are 0 where nothing was refused.
+unfoldable pub flatVerdict : Verdict → EditAnswer
+flatVerdict Good = record { number = 0; row = 0; slot = 0 }
+flatVerdict (NotGood r) = record { number = r .number; row = r .row; slot = r .slot .0 }
+
+-- A row that was asked for, as plain numbers: a refusal shows no row.
+unfoldable pub flatEntry : Entry → RowAnswer
+flatEntry (Shown r) = record { number = 0; row = 0; slot = 0; src = r .src; dst = r .dst; due = r .due }
+flatEntry (NotShown r) = record { number = r .number; row = r .row; slot = r .slot .0; src = 0; dst = 0; due = 0 }
+
+-- A link and its load as plain numbers.
+unfoldable pub flatLink : LinkLoad → LinkAnswer
+flatLink l = record { link = l .link .0; load = l .load }
+
+-- The full outcome of opening from the panel: the flattened verdict, and every number of the lent area.
+pub record PanelOpened (n : ℕ) (s : List ℕ) (r : EditAnswer) (s′ : List ℕ) : Type 0 where
+  pub answers : r ≡ flatVerdict (verdictBy (sizeRefusal n 0) 0)
+  pub fills : s′ ≡ cond (eqb (sizeRefusal n 0) 0) (areaOf n []) s
+
+-- The full outcome of an edit from the panel: the flattened verdict, and every number of the lent area.
+pub record PanelEdited (s : List ℕ) (e : Edit) (r : EditAnswer) (s′ : List ℕ) : Type 0 where
+  pub answers : r ≡ flatVerdict (verdictBy (editRefusal s e) (aboutRow s e))
+  pub fills : s′ ≡ Edit.areaAfter s e

@@ -1,8 +1,13 @@
 // The panel's way in: each function is thin over a proved entry point, and is called from C or Rust by its plain name.
 ghost use mathlib.Core.Path.{_≡_};
-ghost use Rattle.panel.specs.Panel.{flatOf, flatReading, flatWriting, PanelPlanned, PanelRead, PanelWritten};
+ghost use lib.ListN.{getD};
+ghost use Rattle.edit.specs.Edit.{Add, Change, Remove, countIn, nodesIn, rowsIn, loadsIn, entryOf, busiestIn};
+ghost use Rattle.panel.specs.Panel.{flatOf, flatReading, flatWriting, flatVerdict, flatEntry, flatLink, PanelPlanned, PanelRead, PanelWritten, PanelOpened, PanelEdited};
+use edit::Entry;
 use planner::Answer;
+use ring::Node;
 use table::Row;
+use table::Verdict;
 use text::Reading;
 use text::Writing;
 
@@ -33,6 +38,32 @@ pub struct ReadAnswer {
 pub struct WriteAnswer {
     pub number: u16,
     pub length: usize,
+}
+
+// What opening a table or editing it comes to, as plain numbers: `number` is 0 where it was done and a refusal's own otherwise.
+#[repr(C)]
+pub struct EditAnswer {
+    pub number: u16,
+    pub row: u16,
+    pub slot: u16,
+}
+
+// A row that was asked for, as plain numbers: `number` is 0 where it is there and a refusal's own otherwise.
+#[repr(C)]
+pub struct RowAnswer {
+    pub number: u16,
+    pub row: u16,
+    pub slot: u16,
+    pub src: u16,
+    pub dst: u16,
+    pub due: u16,
+}
+
+// A link and its load as plain numbers.
+#[repr(C)]
+pub struct LinkAnswer {
+    pub link: u16,
+    pub load: u16,
 }
 
 // An answer, flattened.
@@ -96,6 +127,48 @@ fn flat_writing(a: Writing) -> WriteAnswer
     }
 }
 
+// A verdict, flattened.
+fn flat_verdict(a: Verdict) -> EditAnswer
+    ensures { λ r. ⌜ r ≡ flatVerdict a ⌝ }
+{
+    match a {
+        Verdict::Good => EditAnswer {
+            number: 0,
+            row: 0,
+            slot: 0,
+        },
+        Verdict::Refused(refusal) => EditAnswer {
+            number: refusal.number,
+            row: refusal.row,
+            slot: refusal.slot.0,
+        },
+    }
+}
+
+// A row that was asked for, flattened.
+fn flat_entry(a: Entry) -> RowAnswer
+    ensures { λ r. ⌜ r ≡ flatEntry a ⌝ }
+{
+    match a {
+        Entry::Shown(row) => RowAnswer {
+            number: 0,
+            row: 0,
+            slot: 0,
+            src: row.src,
+            dst: row.dst,
+            due: row.due,
+        },
+        Entry::Refused(refusal) => RowAnswer {
+            number: refusal.number,
+            row: refusal.row,
+            slot: refusal.slot.0,
+            src: 0,
+            dst: 0,
+            due: 0,
+        },
+    }
+}
+
 // Plans a table in the lent areas, and answers in plain numbers.
 #[no_mangle]
 pub extern "C" fn garboardle_plan(
@@ -126,4 +199,87 @@ pub extern "C" fn garboardle_write(nodes: u16, rows: &[Row], area: &mut [u8]) ->
 {
     let writing = text::write(nodes, rows, area);
     flat_writing(writing)
+}
+
+// Opens an empty table for so many nodes in the lent area.
+#[no_mangle]
+pub extern "C" fn garboardle_open(table: &mut [u16; 1570], nodes: u16) -> EditAnswer
+    ensures { λ r. ⌜ PanelOpened nodes (now (table .entry)) r (now (table .exit)) ⌝ }
+{
+    flat_verdict(edit::open(table, nodes))
+}
+
+// Adds a row at the end of an open table.
+#[no_mangle]
+pub extern "C" fn garboardle_add(table: &mut [u16; 1570], row: Row) -> EditAnswer
+    ensures { λ r. ⌜ PanelEdited (now (table .entry)) (Add row) r (now (table .exit)) ⌝ }
+{
+    flat_verdict(edit::add(table, row))
+}
+
+// Changes row `number` of an open table.
+#[no_mangle]
+pub extern "C" fn garboardle_change(table: &mut [u16; 1570], number: u16, row: Row) -> EditAnswer
+    ensures { λ r. ⌜ PanelEdited (now (table .entry)) (Change number row) r (now (table .exit)) ⌝ }
+{
+    flat_verdict(edit::change(table, number, row))
+}
+
+// Removes row `number` of an open table.
+#[no_mangle]
+pub extern "C" fn garboardle_remove(table: &mut [u16; 1570], number: u16) -> EditAnswer
+    ensures { λ r. ⌜ PanelEdited (now (table .entry)) (Remove number) r (now (table .exit)) ⌝ }
+{
+    flat_verdict(edit::remove(table, number))
+}
+
+// The number of rows of an open table.
+#[no_mangle]
+pub extern "C" fn garboardle_row_count(table: &[u16; 1570]) -> u16
+    ensures { λ r. ⌜ r ≡ countIn (now (table .entry)) ⌝ }
+{
+    edit::row_count(table)
+}
+
+// Row `number` of an open table.
+#[no_mangle]
+pub extern "C" fn garboardle_row_of(table: &[u16; 1570], number: u16) -> RowAnswer
+    ensures { λ r. ⌜ r ≡ flatEntry (entryOf (now (table .entry)) number) ⌝ }
+{
+    flat_entry(edit::row_of(table, number))
+}
+
+// How many rows of an open table cross a link.
+#[no_mangle]
+pub extern "C" fn garboardle_link_load(table: &[u16; 1570], link: u16) -> u16
+    ensures { λ r. ⌜ r ≡ getD (loadsIn (now (table .entry))) link 0 ⌝ }
+{
+    edit::link_load(table, Node(link))
+}
+
+// The busiest link of an open table.
+#[no_mangle]
+pub extern "C" fn garboardle_busiest(table: &[u16; 1570]) -> LinkAnswer
+    ensures { λ r. ⌜ r ≡ flatLink (busiestIn (loadsIn (now (table .entry)))) ⌝ }
+{
+    let busiest = edit::busiest(table);
+    LinkAnswer {
+        link: busiest.link.0,
+        load: busiest.load,
+    }
+}
+
+// Plans an open table in the lent areas, as `garboardle_plan` plans the same rows.
+#[no_mangle]
+pub extern "C" fn garboardle_plan_table(
+    table: &[u16; 1570],
+    plan: &mut [u16],
+    arrivals: &mut [u16],
+) -> PlanAnswer
+    ensures { λ r. ⌜ PanelPlanned (nodesIn (now (table .entry))) (rowsIn (now (table .entry))) (now (plan .entry)) (now (arrivals .entry)) r (now (plan .exit)) (now (arrivals .exit)) ⌝ }
+{
+    let rows = edit::row_count(table) as usize;
+    let columns = edit::columns_of(table);
+    let answer = planner::plan_columns(table[0], rows, columns, plan, arrivals);
+    flat(answer)
 }

@@ -1,13 +1,14 @@
 ghost use mathlib.Core.Path.{_≡_};
-ghost use lib.ListN.{length, replicate};
+ghost use lib.ListN.{length};
 ghost use Rattle.table.specs.Table.{judgeRows, refuse};
 ghost use Rattle.table.specs.Steps.{listed, rowsOf};
-ghost use Prim.Native.Nat.{ℕ, _≤_};
+ghost use Prim.Native.Nat.{_≤_};
 ghost use Rattle.slack.specs.Slack.{traffic};
 ghost use Rattle.planner.specs.Planner.{Planned, quotient, summaryOf};
 ghost use Rattle.planner.specs.Steps.{Runnable, RunPlanned, Tabled, GoodPlanned};
 use lists::greatest;
 use lists::sum;
+use lists::zeros;
 use ring::Slot;
 use slack::run;
 use table::Columns;
@@ -98,13 +99,6 @@ fn refusal(number: u16) -> Answer
     })
 }
 
-// A place for each row that a table may have.
-fn places() -> [u16; 512]
-    ensures { λ r. ⌜ r ≡ replicate {A = ℕ} 512 0 ⌝ }
-{
-    [0u16; 512]
-}
-
 // Plans a well-formed table: refuses areas that are too short, and else plans its run in their fronts.
 fn plan_good(
     nodes: u16,
@@ -125,7 +119,7 @@ fn plan_good(
     if arrivals.len() < rows {
         return refusal(8);
     }
-    let mut left = places();
+    let mut left = zeros();
     measure(nodes, src, dst, &mut left[..rows]);
     plan_run(
         nodes,

@@ -5,7 +5,10 @@ ghost use Rattle.planner.specs.Planner.{Planned};
 use planner::Answer;
 use planner::Summary;
 use planner::plan;
+use planner::plan_columns;
+use ring::Node;
 use table::Row;
+use table::Verdict;
 
 // What the areas hold before a case, so that the entries that it touched can be told: no row's number and no instant is as large.
 const UNTOUCHED: u16 = 65535;
@@ -205,6 +208,15 @@ fn print_outcome(nodes: usize, answer: Answer, plan: &[u16], arrivals: &[u16])
     }
 }
 
+// Writes what planning in fresh areas came to, with just the entries that it touched.
+fn print_areas(nodes: usize, answer: Answer, plan: &[u16], arrivals: &[u16])
+    requires { ⌜ 0 < nodes ⌝ }
+{
+    let entries = touched(plan);
+    let instants = touched(arrivals);
+    print_outcome(nodes, answer, &plan[..entries], &arrivals[..instants]);
+}
+
 // Plans one case in fresh areas and writes what it came to.
 fn run_case(letter: &[u8], nodes: u16, rows: [Row; 3], count: usize)
     requires { ⌜ (0 < nodes) × (count ≤ 3) ⌝ }
@@ -215,14 +227,7 @@ fn run_case(letter: &[u8], nodes: u16, rows: [Row; 3], count: usize)
     io::write_all(OUT, b"case=");
     io::write_all(OUT, letter);
     io::write_all(OUT, b"\n");
-    let entries = touched(&plan);
-    let instants = touched(&arrivals);
-    print_outcome(
-        nodes as usize,
-        answer,
-        &plan[..entries],
-        &arrivals[..instants],
-    );
+    print_areas(nodes as usize, answer, &plan, &arrivals);
 }
 
 // The cases of document 01's sweep table that are accepted or late.
@@ -245,8 +250,75 @@ fn run_edge_cases() {
     run_case(b"L", 33, thrice(row(40, 40, 0)), 1);
 }
 
-// Runs the sweep table through the planner.
+// An area for editing that nobody has opened yet.
+fn table_area() -> [u16; 1570] {
+    [0; 1570]
+}
+
+// Writes the loads of the first four links of a table that is edited.
+fn print_loads(table: &[u16; 1570]) {
+    let mut p = 0;
+    while p < 4 {
+        print_line(b"load", wide(edit::link_load(table, Node(p))));
+        p += 1;
+    }
+}
+
+// Writes what an edit came to, and the rows, loads and busiest link that the table then has.
+fn print_edit(name: &[u8], verdict: Verdict, table: &[u16; 1570]) {
+    io::write_all(OUT, b"edit=");
+    io::write_all(OUT, name);
+    io::write_all(OUT, b"\n");
+    match verdict {
+        Verdict::Good => print_answer(0, 0, 0),
+        Verdict::Refused(r) => print_answer(r.number, r.row, r.slot.0),
+    }
+    print_line(b"rows", wide(edit::row_count(table)));
+    print_loads(table);
+    let busiest = edit::busiest(table);
+    print_line(b"busiest", wide(busiest.link.0));
+    print_line(b"most", wide(busiest.load));
+}
+
+// Opens a table in the lent area and adds rows, one past node 0; a bad one is refused under its coming number.
+fn run_adding(table: &mut [u16; 1570]) {
+    print_edit(b"open", edit::open(table, 33), table);
+    print_edit(b"open", edit::open(table, 4), table);
+    print_edit(b"add", edit::add(table, row(0, 2, 4)), table);
+    print_edit(b"add", edit::add(table, row(3, 1, 5)), table);
+    print_edit(b"add", edit::add(table, row(1, 0, 9)), table);
+    print_edit(b"add", edit::add(table, row(4, 0, 9)), table);
+}
+
+// Changes and removes rows of that table; numbers that aren't there are refused.
+fn run_changing(table: &mut [u16; 1570]) {
+    print_edit(b"change", edit::change(table, 1, row(2, 3, 1)), table);
+    print_edit(b"change", edit::change(table, 9, row(2, 3, 1)), table);
+    print_edit(b"remove", edit::remove(table, 2), table);
+    print_edit(b"remove", edit::remove(table, 0), table);
+}
+
+// Plans the table that was edited.
+fn run_edited(table: &[u16; 1570]) {
+    let mut plan = plan_area();
+    let mut arrivals = arrivals_area();
+    let rows = edit::row_count(table) as usize;
+    let columns = edit::columns_of(table);
+    let answer = plan_columns(table[0], rows, columns, &mut plan, &mut arrivals);
+    print_areas(4, answer, &plan, &arrivals);
+}
+
+// Edits a table, and plans it.
+fn run_editing() {
+    let mut table = table_area();
+    run_adding(&mut table);
+    run_changing(&mut table);
+    run_edited(&table);
+}
+
+// Runs the sweep table through the planner, then the cases of editing.
 fn main() {
     run_rule_cases();
     run_edge_cases();
+    run_editing();
 }

@@ -6,6 +6,7 @@ ghost use Rattle.table.specs.Table.{refuse};
 ghost use Rattle.table.specs.Steps.{listed, columns};
 ghost use Rattle.text.specs.Text.{TextParsed, starts, width, filled, item, line, rowText, rowsText, writingOf, areaAfter, digit-zero, TextTaken, TextPut};
 ghost use Rattle.text.specs.Steps.{figuresIn, lineSeen, rowSeen, RowsTaken, TextRead, tenth, pasted, held};
+use lists::zeros;
 use ring::Slot;
 use table::Columns;
 use table::Refusal;
@@ -239,13 +240,6 @@ fn read_columns(
         return Reading::Read(Header { nodes, rows });
     }
     refused(20, line)
-}
-
-// A column of 512 zeros.
-fn zeros() -> [u16; 512]
-    ensures { λ r. ⌜ r ≡ replicate {A = ℕ} 512 0 ⌝ }
-{
-    [0u16; 512]
 }
 
 // The number of rows that a reading fills.

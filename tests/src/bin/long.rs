@@ -1,6 +1,7 @@
 //! long SECONDS [SEED]: random tables of every kind until the time is up, and one line of figures.
 
 use panel_tests::cases::{faulty, large, small, Kind, Tally};
+use panel_tests::edits::{damaged, few, full, Met};
 use panel_tests::random::Random;
 use panel_tests::texts::{harmed, there_and_back};
 use std::time::{Duration, Instant, SystemTime, UNIX_EPOCH};
@@ -21,14 +22,17 @@ fn main() {
     let first: u64 = words
         .next()
         .map_or_else(now, |w| w.parse().expect("the seed is no number"));
-    let kinds: [(&str, Kind, usize); 5] = [
+    let kinds: [(&str, Kind, usize); 8] = [
         ("small", small, 60),
         ("large", large, 4),
         ("refused", faulty, 12),
         ("text", there_and_back, 12),
         ("text", harmed, 24),
+        ("edit", |random| full(random, &mut Met::default()), 1),
+        ("edit", |random| few(random, &mut Met::default()), 12),
+        ("edit", |random| damaged(random, &mut Met::default()), 24),
     ];
-    let mut tallies: [Tally; 5] = Default::default();
+    let mut tallies: [Tally; 8] = Default::default();
     let start = Instant::now();
     let mut seed = first;
     while start.elapsed() < Duration::from_secs(seconds) {
@@ -45,6 +49,6 @@ fn main() {
             }
         }
     }
-    let [small, large, refused, texts, wrong] = tallies;
-    println!("long: {} tables in {seconds} s from seed {first}, none fails: small {small:?}, large {large:?}, with faults {refused:?}, as text {texts:?}, as text with faults {wrong:?}", seed - first);
+    let [small, large, refused, texts, wrong, full, few, damaged] = tallies;
+    println!("long: {} tables in {seconds} s from seed {first}, none fails: small {small:?}, large {large:?}, with faults {refused:?}, as text {texts:?}, as text with faults {wrong:?}, edited {full:?} {few:?} {damaged:?}", seed - first);
 }

@@ -43,8 +43,8 @@ returns-2 c =
     let good = c .before .before .before .before .before .before .before .before .before .pre .1 in
     short-arrivals (a .nodes) (a .src .now) (a .dst .now) (a .due .now) k good (a .plan .now) (a .arrivals .now) _ (c .refusal2 .ensures) (rw (c .before .before .before .greatest .ensures) at (c .before .before .if1 .left)) (c .before .if2 .taken)
 
-places-requires : tie.Need-places-requires
-places-requires c κs = search needs
+zeros-requires : tie.Need-zeros-requires
+zeros-requires c κs = search needs
 
 array-borrow-prefix-left : tie.Need-array-borrow-prefix-left
 array-borrow-prefix-left c = search needs
@@ -54,28 +54,28 @@ slice-aggregate-measure c =
     let a = c .before .before .before .before .before .before .before .before .before .before .args in
     let k = c .before .before .before .before .before .before .before .before .before .before .pre .0 in
     let good = c .before .before .before .before .before .before .before .before .before .before .pre .1 in
-    front-long (length (a .src .now)) _ (c .before .places .ensures) (k .same .few)
+    front-long (length (a .src .now)) _ (c .before .zeros .ensures) (k .same .few)
 
 measure-requires : tie.Need-measure-requires
 measure-requires c κs =
     let a = c .before .before .before .before .before .before .before .before .before .before .args in
     let k = c .before .before .before .before .before .before .before .before .before .before .pre .0 in
     let good = c .before .before .before .before .before .before .before .before .before .before .pre .1 in
-    measuring (a .nodes) (a .src .now) (a .dst .now) (a .due .now) k good _ (sym (front-long (length (a .src .now)) _ (c .before .places .ensures) (k .same .few)))
+    measuring (a .nodes) (a .src .now) (a .dst .now) (a .due .now) k good _ (sym (front-long (length (a .src .now)) _ (c .before .zeros .ensures) (k .same .few)))
 
 array-borrow-prefix-left-2 : tie.Need-array-borrow-prefix-left-2
 array-borrow-prefix-left-2 c =
     let a = c .before .before .before .before .before .before .before .before .before .before .before .before .args in
     let k = c .before .before .before .before .before .before .before .before .before .before .before .before .pre .0 in
     let good = c .before .before .before .before .before .before .before .before .before .before .before .before .pre .1 in
-    front-fits (length (a .src .now)) (c .before .measure .last .1 .1 .1 .0) (drop (length (a .src .now)) (c .before .before .before .places .result)) (c .before .measure .kept .1 .1 .1 .0 ∙ sym (front-long (length (a .src .now)) _ (c .before .before .before .places .ensures) (k .same .few)))
+    front-fits (length (a .src .now)) (c .before .measure .last .1 .1 .1 .0) (drop (length (a .src .now)) (c .before .before .before .zeros .result)) (c .before .measure .kept .1 .1 .1 .0 ∙ sym (front-long (length (a .src .now)) _ (c .before .before .before .zeros .ensures) (k .same .few)))
 
 slice-aggregate-plan-run : tie.Need-slice-aggregate-plan-run
 slice-aggregate-plan-run c =
     let a = c .before .before .before .before .before .before .before .before .before .before .before .before .before .args in
     let k = c .before .before .before .before .before .before .before .before .before .before .before .before .before .pre .0 in
     let good = c .before .before .before .before .before .before .before .before .before .before .before .before .before .pre .1 in
-    sym (ap length (front-again (length (a .src .now)) (c .before .before .measure .last .1 .1 .1 .0) (drop (length (a .src .now)) (c .before .before .before .before .places .result)) (c .before .before .measure .kept .1 .1 .1 .0 ∙ sym (front-long (length (a .src .now)) _ (c .before .before .before .before .places .ensures) (k .same .few)))) ∙ (c .before .before .measure .kept .1 .1 .1 .0 ∙ sym (front-long (length (a .src .now)) _ (c .before .before .before .before .places .ensures) (k .same .few))))
+    sym (ap length (front-again (length (a .src .now)) (c .before .before .measure .last .1 .1 .1 .0) (drop (length (a .src .now)) (c .before .before .before .before .zeros .result)) (c .before .before .measure .kept .1 .1 .1 .0 ∙ sym (front-long (length (a .src .now)) _ (c .before .before .before .before .zeros .ensures) (k .same .few)))) ∙ (c .before .before .measure .kept .1 .1 .1 .0 ∙ sym (front-long (length (a .src .now)) _ (c .before .before .before .before .zeros .ensures) (k .same .few))))
 
 slice-relend-prefix-plan-run : tie.Need-slice-relend-prefix-plan-run
 slice-relend-prefix-plan-run c = search needs
@@ -102,7 +102,7 @@ plan-run-requires c κs =
     let a = c .before .before .before .before .before .before .before .before .before .before .before .before .before .before .before .args in
     let k = c .before .before .before .before .before .before .before .before .before .before .before .before .before .before .before .pre .0 in
     let good = c .before .before .before .before .before .before .before .before .before .before .before .before .before .before .before .pre .1 in
-    runnable (a .nodes) (a .src .now) (a .dst .now) (a .due .now) k good _ _ _ (front-again (length (a .src .now)) (c .before .before .before .before .measure .last .1 .1 .1 .0) (drop (length (a .src .now)) (c .before .before .before .before .before .before .places .result)) (c .before .before .before .before .measure .kept .1 .1 .1 .0 ∙ sym (front-long (length (a .src .now)) _ (c .before .before .before .before .before .before .places .ensures) (k .same .few))) ∙ c .before .before .before .before .measure .ensures)
+    runnable (a .nodes) (a .src .now) (a .dst .now) (a .due .now) k good _ _ _ (front-again (length (a .src .now)) (c .before .before .before .before .measure .last .1 .1 .1 .0) (drop (length (a .src .now)) (c .before .before .before .before .before .before .zeros .result)) (c .before .before .before .before .measure .kept .1 .1 .1 .0 ∙ sym (front-long (length (a .src .now)) _ (c .before .before .before .before .before .before .zeros .ensures) (k .same .few))) ∙ c .before .before .before .before .measure .ensures)
     (length-take-le _ (a .plan .now) (omega arith) ∙ ap (λ g. a .nodes * g) (c .before .before .before .before .before .before .before .before .before .greatest .ensures)) (length-take-le _ (a .arrivals .now) (omega arith))
 
 same-length : tie.Need-same-length
@@ -117,7 +117,7 @@ returns-3 c =
     let k = c .before .before .before .before .before .before .before .before .before .before .before .before .before .before .before .before .before .before .before .before .before .pre .0 in
     let good = c .before .before .before .before .before .before .before .before .before .before .before .before .before .before .before .before .before .before .before .before .before .pre .1 in
     planned-with (a .nodes) (a .src .now) (a .dst .now) (a .due .now) k good (a .plan .now) (a .arrivals .now) _ (c .before .before .before .before .before .before .before .before .before .before .before .before .before .before .before .greatest .ensures) _ _ _ _
-    (front-again (length (a .src .now)) (c .before .before .before .before .before .before .before .before .before .before .measure .last .1 .1 .1 .0) (drop (length (a .src .now)) (c .before .before .before .before .before .before .before .before .before .before .before .before .places .result)) (c .before .before .before .before .before .before .before .before .before .before .measure .kept .1 .1 .1 .0 ∙ sym (front-long (length (a .src .now)) _ (c .before .before .before .before .before .before .before .before .before .before .before .before .places .ensures) (k .same .few))) ∙ c .before .before .before .before .before .before .before .before .before .before .measure .ensures) (omega arith) (omega arith) (c .before .before .before .before .before .plan-run .ensures)
+    (front-again (length (a .src .now)) (c .before .before .before .before .before .before .before .before .before .before .measure .last .1 .1 .1 .0) (drop (length (a .src .now)) (c .before .before .before .before .before .before .before .before .before .before .before .before .zeros .result)) (c .before .before .before .before .before .before .before .before .before .before .measure .kept .1 .1 .1 .0 ∙ sym (front-long (length (a .src .now)) _ (c .before .before .before .before .before .before .before .before .before .before .before .before .zeros .ensures) (k .same .few))) ∙ c .before .before .before .before .before .before .before .before .before .before .measure .ensures) (omega arith) (omega arith) (c .before .before .before .before .before .plan-run .ensures)
 
 pub plan-good-spec : {M : Type 1} → statement M
 plan-good-spec =
@@ -130,7 +130,7 @@ plan-good-spec =
     returns
     refusal-requires-2
     returns-2
-    places-requires
+    zeros-requires
     array-borrow-prefix-left
     slice-aggregate-measure
     measure-requires

@@ -1,6 +1,6 @@
-use mathlib.Core.Bool.{true}
 -- `slack::walk` meets its contract: the outer loop keeps what holds where an instant begins, the inner one that no row before i is late.
 -- Assumes nothing.
+use mathlib.Core.Bool.{true}
 use mathlib.Core.Path.{_≡_, _∙_, sym, refl}
 use Prim.Native.Nat.{_≤_, _-_}
 use native.Mathlib.Omega.{arith}

@@ -1,0 +1,118 @@
+-- The definitions at work: a table for 4 nodes is opened, edited and asked, step by step, good edits and refused ones.
+-- Link p goes from node p to node p + 1; so the row from 3 to 1 crosses links 3 and 0.
+-- Assumes nothing.
+use mathlib.Core.Path.{_≡_, refl}
+use Prim.Native.Nat.{ℕ}
+use mathlib.Core.List.{List, [], _∷_, map}
+use lib.ListN.{replicate}
+use Rattle.lists.specs.Lists.{largest}
+use Rattle.table.specs.declared.Row.{Row}
+use Rattle.table.specs.declared.Verdict.{Verdict}
+use Rattle.table.specs.declared.Verdict.the-variants.{Good, Refused}
+use Rattle.table.specs.Table.{refuse, rowRefusal}
+use Rattle.edit.specs.declared.Entry.the-variants as entry
+use Rattle.edit.specs.declared.LinkLoad.{LinkLoad}
+use Rattle.edit.specs.Edit.{crosses, load, numbers, laid, areaOf, loadIn, rowIn, rowsIn, Edit, Add, Change, Remove, firstOf, sizeRefusal, numberRefusal, refusalOf, editRefusal, aboutRow, rowNamed, verdictBy, rowsAfter, stepBy, stepFor, loadAfter, behindAfter, edited, areaAfter, entryOf, loadsIn, firstPlace, busiestIn}
+
+-- A row by source, destination and due slot; a refusal of an edit; a link and its load.
+row : (src dst due : ℕ) → Row
+row src dst due = record { src = src; dst = dst; due = due }
+
+refused : (number row : ℕ) → Verdict
+refused number row = Refused (refuse number row 0)
+
+busiest : (link load : ℕ) → LinkLoad
+busiest link load = record { link = record { 0 = link }; load = load }
+
+-- An edit, and what is expected: the verdict, and then the rows, the loads and the busiest link.
+record Step : Type 0 where
+  edit : Edit
+  verdict : Verdict
+  rows : List Row
+  loads : List ℕ
+  most : LinkLoad
+
+step : Edit → Verdict → List Row → List ℕ → LinkLoad → Step
+step e v rows loads most = record { edit = e; verdict = v; rows = rows; loads = loads; most = most }
+
+-- The steps, one behind the other.
+steps : List Step
+steps =
+    step (Add (row 0 2 4)) Good (row 0 2 4 ∷ []) (1 ∷ 1 ∷ 0 ∷ 0 ∷ []) (busiest 0 1)
+    ∷ step (Add (row 3 1 5)) Good (row 0 2 4 ∷ row 3 1 5 ∷ []) (2 ∷ 1 ∷ 0 ∷ 1 ∷ []) (busiest 0 2)
+    ∷ step (Add (row 1 0 9)) Good (row 0 2 4 ∷ row 3 1 5 ∷ row 1 0 9 ∷ []) (2 ∷ 2 ∷ 1 ∷ 2 ∷ []) (busiest 0 2)
+    -- a source that isn't there
+    ∷ step (Add (row 4 1 5)) (refused 3 4) (row 0 2 4 ∷ row 3 1 5 ∷ row 1 0 9 ∷ []) (2 ∷ 2 ∷ 1 ∷ 2 ∷ []) (busiest 0 2)
+    ∷ step (Change 1 (row 2 3 1)) Good (row 2 3 1 ∷ row 3 1 5 ∷ row 1 0 9 ∷ []) (1 ∷ 1 ∷ 2 ∷ 2 ∷ []) (busiest 2 2)
+    -- a row that isn't there
+    ∷ step (Change 9 (row 2 3 1)) (refused 12 9) (row 2 3 1 ∷ row 3 1 5 ∷ row 1 0 9 ∷ []) (1 ∷ 1 ∷ 2 ∷ 2 ∷ []) (busiest 2 2)
+    ∷ step (Remove 2) Good (row 2 3 1 ∷ row 1 0 9 ∷ []) (0 ∷ 1 ∷ 2 ∷ 1 ∷ []) (busiest 2 2)
+    ∷ step (Remove 0) (refused 12 0) (row 2 3 1 ∷ row 1 0 9 ∷ []) (0 ∷ 1 ∷ 2 ∷ 1 ∷ []) (busiest 2 2)
+    ∷ []
+
+-- What the definitions say of the steps from an area on.
+computed : List ℕ → List Step → List Step
+computed s [] = []
+computed s (c ∷ cs) =
+    let after = areaAfter s (c .edit) in
+    step (c .edit) (verdictBy (editRefusal s (c .edit)) (aboutRow s (c .edit))) (rowsIn after) (loadsIn after) (busiestIn (loadsIn after)) ∷ computed after cs
+
+-- Every step comes out as expected.
+steps-come-out : computed (areaOf 4 []) steps ≡ steps
+unfolding row refused busiest step steps computed largest rowRefusal crosses load numbers laid areaOf loadIn rowIn rowsIn firstOf sizeRefusal numberRefusal refusalOf aboutRow rowNamed verdictBy rowsAfter stepBy stepFor loadAfter behindAfter edited areaAfter loadsIn firstPlace busiestIn
+steps-come-out = refl
+
+-- An area, an edit of it, and the refusal expected.
+record Wrong : Type 0 where
+  area : List ℕ
+  edit : Edit
+  number : ℕ
+  about : ℕ
+
+wrong : List ℕ → Edit → (number about : ℕ) → Wrong
+wrong s e number about = record { area = s; edit = e; number = number; about = about }
+
+-- A table of one row, and a full one.
+single : List ℕ
+single = areaOf 4 (row 0 1 1 ∷ [])
+
+full : List ℕ
+full = areaOf 4 (replicate {A = Row} 512 (row 0 1 1))
+
+-- One case a line: what comes first where several things are wrong.
+wrongs : List Wrong
+wrongs =
+    -- a row that isn't there, before what is wrong with the row given
+    wrong (areaOf 4 []) (Remove 1) 12 1
+    ∷ wrong single (Change 2 (row 4 4 0)) 12 2
+    ∷ wrong single (Change 1 (row 4 4 0)) 3 1
+    ∷ wrong single (Change 1 (row 0 4 0)) 4 1
+    ∷ wrong single (Change 1 (row 2 2 0)) 5 1
+    ∷ wrong single (Change 1 (row 0 1 0)) 6 1
+    ∷ wrong single (Add (row 0 1 1025)) 6 2
+    -- a full table, before what is wrong with the row
+    ∷ wrong full (Add (row 4 4 0)) 2 0
+    -- an area that no opening filled: its nodes, and then its rows
+    ∷ wrong (areaOf 33 []) (Remove 1) 1 0
+    ∷ wrong (1 ∷ 513 ∷ []) (Remove 1) 1 0
+    ∷ wrong (4 ∷ 513 ∷ []) (Remove 0) 2 0
+    ∷ []
+
+-- Every wrong edit is refused as expected.
+wrongs-are-refused : map (λ (w : Wrong). verdictBy (editRefusal (w .area) (w .edit)) (aboutRow (w .area) (w .edit))) wrongs ≡ map (λ (w : Wrong). refused (w .number) (w .about)) wrongs
+unfolding row refused wrong single full wrongs rowRefusal load numbers laid areaOf firstOf sizeRefusal numberRefusal refusalOf aboutRow rowNamed verdictBy
+wrongs-are-refused = refl
+
+-- Tables for 1 to 33 nodes, opened; an opened one has no rows and no loads, and its busiest link is link 0 with load 0.
+openings : map (λ (n : ℕ). verdictBy (sizeRefusal n 0) 0) (1 ∷ 2 ∷ 32 ∷ 33 ∷ []) ≡ refused 1 0 ∷ Good ∷ Good ∷ refused 1 0 ∷ []
+unfolding refused sizeRefusal rowNamed verdictBy
+openings = refl
+
+empty-table : (rowsIn (areaOf 4 []) ≡ []) × (loadsIn (areaOf 4 []) ≡ 0 ∷ 0 ∷ 0 ∷ 0 ∷ []) × (busiestIn (loadsIn (areaOf 4 [])) ≡ busiest 0 0)
+unfolding busiest largest load numbers laid areaOf loadIn rowIn rowsIn loadsIn firstPlace busiestIn
+empty-table = (refl, refl, refl)
+
+-- Rows of a table of one row, asked for.
+rows-asked : map (entryOf single) (0 ∷ 1 ∷ 2 ∷ []) ≡ entry.Refused (refuse 12 0 0) ∷ entry.Shown (row 0 1 1) ∷ entry.Refused (refuse 12 2 0) ∷ []
+unfolding row single load numbers laid areaOf rowIn firstOf sizeRefusal numberRefusal refusalOf rowNamed entryOf
+rows-asked = refl

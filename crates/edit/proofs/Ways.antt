@@ -1,0 +1,155 @@
+-- The way of a row round the ring, and the loads of all links together.
+--     crosses-by-distance      a link lies on a row's way exactly if it is nearer to the source than the destination is
+--     way-long                 a row crosses as many links as its destination is away
+--     loads-sum-to-sends       all loads of a well-formed table together are the sends that the planner counts
+-- Assumes nothing.
+use mathlib.Core.Path.{_≡_, refl, _∙_, ap, sym}
+use Prim.Native.Nat.{ℕ, zero, suc, _+_, _-_, _*_, _≤_, _<_}
+use native.Mathlib.Nat.{suc-mul}
+use native.Mathlib.Omega.{arith}
+use mathlib.Core.Bool.{Bool, true, false, cond, _||_, _&&_}
+use mathlib.Core.List.{List, [], _∷_}
+use borrow.Author.Tests.{ltb-true, ltb-false, leb-true, leb-false, lt-ltb, le-ltb}
+use lib.Dec.{ltb, leb, leb·suc-suc, leb·suc-zero}
+use Rattle.lists.specs.Lists.{build, total}
+use Rattle.lists.proofs.Build.{build-ext}
+use Rattle.ring.specs.Ring.{distance}
+use Rattle.ring.proofs.Turn.{short-of-zero, past-zero}
+use Rattle.table.specs.declared.Row.{Row}
+use Rattle.table.specs.Table.{distances, WellFormed}
+use Rattle.table.proofs.Judging.{GoodRow}
+use Rattle.edit.specs.Edit.{crosses, load}
+use Rattle.edit.proofs.Loads.{counted}
+use Rattle.edit.proofs.GoodRows.{AllGood, good-row, all-good}
+
+-- Two tests of numbers that lie equally far apart.
+same-gap : (a b c d : ℕ) → a + d ≡ c + b → ltb a b ≡ ltb c d
+same-gap a b c d e = go (ltb a b) refl
+  where
+    go : (t : Bool) → ltb a b ≡ t → t ≡ ltb c d
+    go true f = sym (lt-ltb c d (omega (arith, ltb-true a b f)))
+    go false f = sym (le-ltb c d (omega (arith, ltb-false a b f)))
+
+-- The distance, without the remainder.
+module _ (n p q : ℕ) where
+  distance-ahead : p ≤ q → q < n → distance n p q ≡ q - p
+  unfolding distance
+  distance-ahead = short-of-zero n p q
+
+  distance-round : q < p → p < n → distance n p q ≡ q + n - p
+  unfolding distance
+  distance-round h l = past-zero n p q h (omega arith)
+
+-- A link lies on a row's way exactly if it is nearer to the row's source than the destination is.
+pub crosses-by-distance : (n : ℕ) (r : Row) (p : ℕ) → p < n → r .src < n → r .dst < n → (r .src ≡ r .dst → ⊥) → crosses n r p ≡ ltb (distance n (r .src) p) (distance n (r .src) (r .dst))
+unfolding crosses
+crosses-by-distance n r p hp hs hd apart = rw (lt-ltb p n hp) (go (ltb s d) refl (leb s p) refl)
+  where
+    s : ℕ
+    s = r .src
+
+    d : ℕ
+    d = r .dst
+
+    go : (a : Bool) → ltb s d ≡ a → (b : Bool) → leb s p ≡ b → cond a (b && ltb p d) (b || ltb p d) ≡ ltb (distance n s p) (distance n s d)
+    go true ea true eb =
+        let h : s < d = ltb-true s d ea in
+        let l : s ≤ p = leb-true s p eb in
+        same-gap p d (distance n s p) (distance n s d) (omega (arith, distance-ahead n s p l hp, distance-ahead n s d (omega arith) hd))
+    go true ea false eb =
+        let h : s < d = ltb-true s d ea in
+        let l : p < s = leb-false s p eb in
+        sym (le-ltb (distance n s p) (distance n s d) (omega (arith, distance-round n s p l hs, distance-ahead n s d (omega arith) hd)))
+    go false ea true eb =
+        let h : d < s = omega (arith, ltb-false s d ea, apart) in
+        let l : s ≤ p = leb-true s p eb in
+        sym (lt-ltb (distance n s p) (distance n s d) (omega (arith, distance-ahead n s p l hp, distance-round n s d h hs)))
+    go false ea false eb =
+        let h : d < s = omega (arith, ltb-false s d ea, apart) in
+        let l : p < s = leb-false s p eb in
+        same-gap p d (distance n s p) (distance n s d) (omega (arith, distance-round n s p l hs, distance-round n s d h hs))
+
+-- ---- sums over the links
+-- The sum of two rules is the sum of their sums.
+pub total-both : (n : ℕ) (f g : ℕ → ℕ) → total (build n (λ i. f i + g i)) ≡ total (build n f) + total (build n g)
+unfolding total
+total-both zero f g = omega arith
+total-both (suc n) f g = omega (arith, total-both n (λ i. f (suc i)) (λ i. g (suc i)))
+
+-- A rule that gives the same number everywhere.
+pub total-same : (n m : ℕ) → total (build n (λ i. m)) ≡ n * m
+unfolding total
+total-same zero m = omega arith
+total-same (suc n) m = omega (arith, total-same n m, suc-mul n m)
+
+-- 1 for every place below b.
+abbrev below : ℕ → ℕ → ℕ
+below b p = cond (ltb p b) 1 0
+
+-- There are b places below b.
+below-long : (n b : ℕ) → b ≤ n → total (build n (below b)) ≡ b
+unfolding total
+below-long zero b h = omega arith
+below-long (suc n) zero h =
+    let never : build n (λ i. below 0 (suc i)) ≡ build n (λ i. 0) = build-ext n (λ i. below 0 (suc i)) (λ i. 0) (λ i l. rw (leb·suc-zero (suc i))) in
+    omega (arith, ap total never, total-same n 0)
+below-long (suc n) (suc b) h =
+    let first : below (suc b) 0 ≡ 1 = rw (lt-ltb 0 (suc b) (omega arith)) in
+    let rest : build n (λ i. below (suc b) (suc i)) ≡ build n (below b) = build-ext n (λ i. below (suc b) (suc i)) (below b) (λ i l. rw (leb·suc-suc (suc i) b)) in
+    omega (arith, first, ap total rest, below-long n b (omega arith))
+
+-- ---- the way of one row
+module _ (n : ℕ) (r : Row) (good : GoodRow n r) where
+  -- A link on the way to a destination above the source lies below the destination, but not below the source.
+  ahead : r .src < r .dst → (p : ℕ) → p < n → counted n r p + below (r .src) p ≡ below (r .dst) p
+  unfolding crosses
+  ahead h p l = rw (lt-ltb p n l, lt-ltb (r .src) (r .dst) h) (go (leb (r .src) p) refl)
+    where
+      go : (b : Bool) → leb (r .src) p ≡ b → cond (b && ltb p (r .dst)) 1 0 + below (r .src) p ≡ below (r .dst) p
+      go true e = rw (le-ltb p (r .src) (leb-true (r .src) p e)) (omega arith)
+      go false e =
+          let less : p < r .src = leb-false (r .src) p e in
+          rw (lt-ltb p (r .src) less, lt-ltb p (r .dst) (omega arith)) (omega arith)
+
+  -- On the way round node 0 it lies below the destination or not below the source.
+  round : r .dst < r .src → (p : ℕ) → p < n → counted n r p + below (r .src) p ≡ 1 + below (r .dst) p
+  unfolding crosses
+  round h p l = rw (lt-ltb p n l, le-ltb (r .src) (r .dst) (omega arith)) (go (leb (r .src) p) refl)
+    where
+      go : (b : Bool) → leb (r .src) p ≡ b → cond (b || ltb p (r .dst)) 1 0 + below (r .src) p ≡ 1 + below (r .dst) p
+      go true e =
+          let past : r .src ≤ p = leb-true (r .src) p e in
+          rw (le-ltb p (r .src) past, le-ltb p (r .dst) (omega arith)) (omega arith)
+      go false e = rw (lt-ltb p (r .src) (leb-false (r .src) p e)) (omega arith)
+
+  -- The links on the way and those below the source, summed up.
+  both-sums : (g : ℕ → ℕ) → ((p : ℕ) → p < n → counted n r p + below (r .src) p ≡ g p) → total (build n (counted n r)) + r .src ≡ total (build n g)
+  both-sums g same =
+      let sum = total-both n (counted n r) (below (r .src)) in
+      let is = build-ext n (λ p. counted n r p + below (r .src) p) g same in
+      omega (arith, sum, ap total is, below-long n (r .src) (omega (arith, good .src-inside)))
+
+  -- A row crosses as many links as its destination is away.
+  pub way-long : total (build n (counted n r)) ≡ distance n (r .src) (r .dst)
+  way-long = go (ltb (r .src) (r .dst)) refl
+    where
+      to : total (build n (below (r .dst))) ≡ r .dst
+      to = below-long n (r .dst) (omega (arith, good .dst-inside))
+
+      go : (b : Bool) → ltb (r .src) (r .dst) ≡ b → total (build n (counted n r)) ≡ distance n (r .src) (r .dst)
+      go true e =
+          let h : r .src < r .dst = ltb-true (r .src) (r .dst) e in
+          omega (arith, both-sums (below (r .dst)) (ahead h), to, distance-ahead n (r .src) (r .dst) (omega arith) (good .dst-inside))
+      go false e =
+          let h : r .dst < r .src = omega (arith, ltb-false (r .src) (r .dst) e, good .apart) in
+          omega (arith, both-sums (λ p. 1 + below (r .dst) p) (round h), total-both n (λ p. 1) (below (r .dst)), total-same n 1, to, distance-round n (r .src) (r .dst) h (good .src-inside))
+
+-- All loads together are the sum of all distances.
+sum-of-loads : (n : ℕ) (rows : List Row) → AllGood n rows → total (build n (load n rows)) ≡ total (distances n rows)
+unfolding AllGood load distances total
+sum-of-loads n [] g = total-same n 0 ∙ omega arith
+sum-of-loads n (r ∷ rows) g = total-both n (counted n r) (load n rows) ∙ omega (arith, way-long n r (good-row n r (g .0)), sum-of-loads n rows (g .1))
+
+-- All loads of a well-formed table together are the sends that the planner's summary counts.
+pub loads-sum-to-sends : (n : ℕ) (rows : List Row) → WellFormed n rows → total (build n (load n rows)) ≡ total (distances n rows)
+loads-sum-to-sends n rows well = sum-of-loads n rows (all-good n rows well)

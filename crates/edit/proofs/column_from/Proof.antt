@@ -1,0 +1,77 @@
+-- `edit::column_from` meets its contract: after i turns the first i entries are filled.
+-- Assumes nothing.
+use lib.ListN.{length-set, length, getD}
+use mathlib.Core.Path.{_≡_, _∙_, refl}
+use Prim.Native.Nat.{_+_, _*_, _≤_, _-_}
+use native.Mathlib.Omega.{arith}
+use borrow.Author.Needs.{needs}
+use Rattle.lists.proofs.Filling.{filled-more, filled-whole, filled}
+use Rattle.edit.specs.Steps.{thirds}
+use Rattle.edit.proofs.column_from.Statement.{statement}
+use Rattle.edit.proofs.column_from.Tie as tie
+
+abbrev Inv-loop : tie.InvT-loop
+Inv-loop table at column₀ i₀ column i = (i ≤ 512) × (length column ≡ 512) × (length column₀ ≡ 512) × (column ≡ filled (λ j. getD table (at + 3 * j) 0) column₀ i)
+
+abbrev μ-loop : tie.MeasureT-loop
+μ-loop table at column₀ i₀ column i = 512 - i
+
+zeros-requires : tie.Need-zeros-requires Inv-loop μ-loop
+zeros-requires c κs = search needs
+
+loop-holds : tie.Need-loop-holds Inv-loop μ-loop
+loop-holds c = (search needs, search needs, search needs, refl)
+
+mul-column : tie.Need-mul-column Inv-loop μ-loop
+mul-column c = search needs
+
+add-column : tie.Need-add-column Inv-loop μ-loop
+add-column c = search needs
+
+mul-column-2 : tie.Need-mul-column-2 Inv-loop μ-loop
+mul-column-2 c = search needs
+
+shared-slice-read-column : tie.Need-shared-slice-read-column Inv-loop μ-loop
+shared-slice-read-column c = search needs
+
+mul-column-3 : tie.Need-mul-column-3 Inv-loop μ-loop
+mul-column-3 c = search needs
+
+array-write-column : tie.Need-array-write-column Inv-loop μ-loop
+array-write-column c = search needs
+
+add-i : tie.Need-add-i Inv-loop μ-loop
+add-i c = search needs
+
+loop-less : tie.Need-loop-less Inv-loop μ-loop
+loop-less c = search needs
+
+loop-again : tie.Need-loop-again Inv-loop μ-loop
+loop-again c =
+    let l = c .before .before .loop in
+    (omega arith, simp length-set (l .inv .1), l .inv .2, rw (l .inv .3) (filled-more _ _ (l .i) (omega arith)))
+
+returns : tie.Need-returns Inv-loop μ-loop
+unfolding thirds
+returns c =
+    let l = c .before .loop in
+    l .inv .3 ∙ filled-whole _ _ (l .i) 512 (omega arith) (l .inv .2)
+
+pub column-from-spec : {M : Type 1} → statement M
+column-from-spec =
+    tie.close
+    (tie.spec
+    Inv-loop
+    μ-loop
+    zeros-requires
+    loop-holds
+    mul-column
+    add-column
+    mul-column-2
+    shared-slice-read-column
+    mul-column-3
+    array-write-column
+    add-i
+    loop-less
+    loop-again
+    returns)
