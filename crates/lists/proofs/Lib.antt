@@ -1,3 +1,4 @@
 pub mod Build
 pub mod Figures
 pub mod Filling
+pub mod Fronts

@@ -12,7 +12,7 @@ use Rattle.lists.proofs.Build.{length-build}
 use Rattle.table.specs.Table.{refuse}
 use Rattle.slack.specs.declared.Stop.{Stop}
 use Rattle.slack.specs.Slack.{Traffic, planOf, arrivalsOf}
-use Rattle.slack.specs.Steps.{Ran}
+use Rattle.run.specs.Steps.{Ran}
 use Rattle.planner.specs.declared.Summary.{Summary}
 use Rattle.planner.specs.declared.Answer.the-variants.{Accepted, Refused}
 use Rattle.planner.specs.Planner.{summaryOf}

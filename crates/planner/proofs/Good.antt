@@ -8,8 +8,8 @@ use mathlib.Core.Bool.{Bool, true, false, cond}
 use mathlib.Core.List.{List, _++_}
 use borrow.Author.Tests.{lt-ltb, le-ltb}
 use lib.Dec.{eqb}
-use lib.ListN.{length, getD, take, drop, replicate, length-replicate, length-append}
-use lib.Seq.{take-at, length-take-le}
+use lib.ListN.{length, getD, take, drop, replicate}
+use lib.Seq.{length-take-le}
 use Rattle.lists.specs.Lists.{build, largest}
 use Rattle.lists.proofs.Build.{length-build, getD-build}
 use Rattle.lists.proofs.Figures.{largest-below}
@@ -21,24 +21,14 @@ use Rattle.table.specs.Table.{judgeRows, refuse, distances, lastDue}
 use Rattle.table.specs.Steps.{rowsOf, Measuring}
 use Rattle.table.proofs.Judging.{GoodRow, good-rows, rows-long, rows-at, its-destinations, its-dues, its-distances}
 use Rattle.slack.specs.Slack.{traffic, OnRing, planOf, arrivalsOf, stopOf}
-use Rattle.slack.proofs.Walking.{plan-length}
-use Rattle.slack.specs.Steps.{AllUnderWay}
+use Rattle.run.proofs.Walking.{plan-length}
+use Rattle.run.specs.Steps.{AllUnderWay}
 use Rattle.planner.specs.declared.Answer.{Answer}
 use Rattle.planner.specs.declared.Summary.{Summary}
 use Rattle.planner.specs.declared.Answer.the-variants.{Accepted, Refused}
 use Rattle.planner.specs.Planner.{trafficOf, ending, thePlan, theArrivals, theSummary, answerToRows, areaAfter}
 use Rattle.planner.specs.Steps.{Runnable, RunPlanned, answerToRun, Tabled, GoodPlanned}
 use Rattle.planner.proofs.Answering.{arrivals-long}
-
--- the front of the places, and the front again once it was written
-pub front-long : (k : ℕ) (places : List ℕ) → places ≡ replicate {A = ℕ} 512 0 → k ≤ 512 → k ≡ length (take k places)
-front-long k places e h = sym (length-take-le k places (rw (e, length-replicate {A = ℕ} 512 0) h))
-
-pub front-again : (k : ℕ) (written rest : List ℕ) → length written ≡ k → take k (written ++ rest) ≡ written
-front-again k written rest e = take-at written rest k e
-
-pub front-fits : (k : ℕ) (written rest : List ℕ) → length written ≡ k → k ≤ length (written ++ rest)
-front-fits k written rest e = omega (arith, length-append written rest)
 
 -- what an area holds that was filled, or cleared, in its front
 filled : (b : Bool) (s : Summary) (row slot m : ℕ) (given part before : List ℕ) → length given ≡ m → part ≡ cond b given (replicate m 0)

@@ -29,8 +29,8 @@ use Rattle.table.specs.Steps.{none, sources, rowsOf}
 use Rattle.table.proofs.Rows.{rows-of-columns, same-rows}
 use Rattle.table.proofs.Judging.{good-rows}
 use Rattle.slack.specs.Slack.{Traffic, OnRing, underWay, planOf, stateAt, deliveredFrom, arrivalsOf, lateRow, stopOf}
-use Rattle.slack.specs.Steps.{AllUnderWay}
-use Rattle.slack.proofs.Walking.{plan-length}
+use Rattle.run.specs.Steps.{AllUnderWay}
+use Rattle.run.proofs.Walking.{plan-length}
 use Rattle.slack.proofs.Rule.{LowestLate, late-lowest}
 use Rattle.slack.proofs.Ending.{stop-first}
 use Rattle.optimal.specs.Schedule.{busy}

@@ -11,7 +11,7 @@ use Rattle.table.specs.Table.{refuse}
 use Rattle.table.specs.Steps.{SameRows}
 use Rattle.slack.specs.declared.Stop.{Stop}
 use Rattle.slack.specs.Slack.{Traffic, planOf, arrivalsOf, stopOf}
-use Rattle.slack.specs.Steps.{Ready, AllUnderWay}
+use Rattle.run.specs.Steps.{Ready, AllUnderWay}
 use Rattle.planner.specs.declared.Answer.{Answer}
 use Rattle.planner.specs.declared.Answer.the-variants.{Accepted, Refused}
 use Rattle.planner.specs.Planner.{summaryOf, answerToRows, areaAfter, thePlan, theArrivals}

@@ -10,7 +10,7 @@ use lists::greatest;
 use lists::sum;
 use lists::zeros;
 use ring::Slot;
-use slack::run;
+use run::run;
 use table::Columns;
 use table::Refusal;
 use table::Row;

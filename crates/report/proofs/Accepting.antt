@@ -17,7 +17,7 @@ use Rattle.table.specs.Table.{judge, WellFormed, destinations, dues, distances,
 use Rattle.table.specs.Steps.{sources, listed}
 use Rattle.table.proofs.Rows.{length-listed}
 use Rattle.table.proofs.Judging.{its-dues}
-use Rattle.slack.proofs.Walking.{plan-length}
+use Rattle.run.proofs.Walking.{plan-length}
 use Rattle.planner.specs.declared.Answer.{Answer}
 use Rattle.planner.specs.declared.Summary.{Summary}
 use Rattle.planner.specs.declared.Answer.the-variants.{Accepted, Refused}

@@ -16,7 +16,7 @@ use Rattle.slack.specs.Slack.{slackOf}
 use Rattle.slack.proofs.Signed.{less-of-pos, difference-range, slack-range}
 
 -- a number of 16 bits, read as an i32
-whole : (x : ℕ) → x < 2 ^ 16 → toZ w32 x ≡ pos x
+pub whole : (x : ℕ) → x < 2 ^ 16 → toZ w32 x ≡ pos x
 whole x h = toZ-pos w32 (omega arith)
 
 module _ (due t left : ℕ) (hd : due < 2 ^ 16) (ht : t < 2 ^ 16) (hl : left < 2 ^ 16) where

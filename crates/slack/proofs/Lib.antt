@@ -5,6 +5,7 @@ pub mod Ending
 mod Bits
 mod Search
 mod Looking
-mod Sending
-pub mod Walking
-mod Running
+mod Turning
+pub mod Figures
+pub mod Sending
+mod Slotting

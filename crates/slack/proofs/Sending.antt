@@ -9,14 +9,17 @@ use native.Mathlib.Omega.{arith}
 use borrow.Author.Tests.{eq-eqb, ne-eqb, eqb-true}
 use mathlib.Core.List.{List, [], _∷_}
 use lib.Dec.{eqb, eqb·zero-suc}
+use lib.IntN.{ℤ}
 use lib.ListN.{length, getD, set, take}
 use lib.Seq.{getD-take, length-take-le}
 use Rattle.lists.specs.Lists.{build}
 use Rattle.lists.proofs.Build.{length-build, getD-build, build-ext, build-of, set-build}
 use Rattle.slack.specs.Slack.{Traffic, OnRing, place, slotOf, moved}
-use Rattle.slack.specs.Steps.{named, less, stamped, Sending, SlotPlanned}
+use Rattle.slack.specs.Figure.{figuresOf}
+use Rattle.slack.specs.Steps.{named, less, stamped, turned, Sending, SlotPlanned}
 use Rattle.slack.proofs.Rule.{Picked, pick-least, place-inside, slot-entry}
 use Rattle.slack.proofs.Joined.{differ}
+use Rattle.slack.proofs.Figures.{figures-next}
 
 pub named-then : (slot : List ℕ) (i : ℕ) → named slot i ≡ true → (q : ℕ) × (q < length slot) × (getD slot q 0 ≡ suc i)
 unfolding named
@@ -178,6 +181,11 @@ module _ (T : Traffic) (t : ℕ) (left : List ℕ) (ring : OnRing T left) where
   pub can-send : (arrivals s : List ℕ) → length arrivals ≡ length left → s ≡ slot → Sending s left arrivals
   can-send arrivals s e chosen = rw chosen (chosen-sending arrivals e)
 
-  pub slot-planned : (arrivals s left′ arrivals′ : List ℕ) → s ≡ slot → (left′ ≡ less s left) × (arrivals′ ≡ stamped s (suc t) arrivals) → SlotPlanned T t left arrivals s left′ arrivals′
-  slot-planned arrivals s left′ arrivals′ chosen sent =
-      record { carries = chosen; moves = sent .0 ∙ rw chosen less-moved; stamps = sent .1 ∙ rw chosen }
+  pub slot-planned : (arrivals s left′ : List ℕ) (figures′ : List ℤ) (arrivals′ : List ℕ) → s ≡ slot → figures′ ≡ turned (T .nodes) s (figuresOf T left) → (left′ ≡ less s left) × (arrivals′ ≡ stamped s (suc t) arrivals) → SlotPlanned T t left arrivals s left′ figures′ arrivals′
+  slot-planned arrivals s left′ figures′ arrivals′ chosen corrected sent =
+      record {
+        carries = chosen;
+        moves = sent .0 ∙ rw chosen less-moved;
+        figures = corrected ∙ rw chosen (figures-next T left ring t);
+        stamps = sent .1 ∙ rw chosen;
+      }

@@ -14,10 +14,10 @@ use lib.Signed.{ltZ, mag}
 use Rattle.slack.specs.Slack.{slackOf}
 
 -- the difference of two natural numbers, below zero and not
-below : (a b : ℕ) → a < b → subℕ a b ≡ negsuc (b - suc a)
+pub below : (a b : ℕ) → a < b → subℕ a b ≡ negsuc (b - suc a)
 below a b l = rw (lt-ltb a b l)
 
-above : (a b : ℕ) → b ≤ a → subℕ a b ≡ pos (a - b)
+pub above : (a b : ℕ) → b ≤ a → subℕ a b ≡ pos (a - b)
 above a b l = rw (le-ltb a b l)
 
 -- one more natural number taken away
@@ -35,7 +35,7 @@ less-of-neg a (suc b) =
     let e : suc (a + b) ≡ a + suc b = omega arith in
     ap negsuc e
 
-less-of-difference : (a b c : ℕ) → subℕ a b -ℤ pos c ≡ subℕ a (b + c)
+pub less-of-difference : (a b c : ℕ) → subℕ a b -ℤ pos c ≡ subℕ a (b + c)
 less-of-difference a b c = go (ltb a b) refl (ltb a (b + c)) refl
   where
     go : (x : Bool) → ltb a b ≡ x → (y : Bool) → ltb a (b + c) ≡ y → subℕ a b -ℤ pos c ≡ subℕ a (b + c)
@@ -66,7 +66,7 @@ difference-below-zero a b = go (ltb a b) refl
     go true e = ap (λ z. ltZ z (pos 0)) (below a b (ltb-true a b e)) ∙ sym e
     go false e = ap (λ z. ltZ z (pos 0)) (above a b (ltb-false a b e)) ∙ le-ltb (a - b) 0 (omega arith) ∙ sym e
 
-differences-compared : (a b c d : ℕ) → ltZ (subℕ a b) (subℕ c d) ≡ ltb (a + d) (c + b)
+pub differences-compared : (a b c d : ℕ) → ltZ (subℕ a b) (subℕ c d) ≡ ltb (a + d) (c + b)
 differences-compared a b c d = go (ltb a b) refl (ltb c d) refl (ltb (a + d) (c + b)) refl
   where
     same : (x y : ℤ) → subℕ a b ≡ x → subℕ c d ≡ y → ltZ (subℕ a b) (subℕ c d) ≡ ltZ x y

@@ -1,12 +1,13 @@
 ghost use mathlib.Core.Path.{_≡_};
 ghost use mathlib.Core.Bool.{_&&_};
-ghost use Prim.Native.Nat.{suc, _+_, _*_, _^_, _<_};
+ghost use Prim.Native.Nat.{suc, _<_, _^_};
 ghost use lib.Dec.{ltb};
 ghost use lib.IntN.{pos};
 ghost use lib.Signed.{ltZ};
 ghost use lib.ListN.{length};
-ghost use Rattle.slack.specs.Slack.{traffic, OnRing, slackOf, anyUnderWay, slotOf};
-ghost use Rattle.slack.specs.Steps.{seen, less, stamped, Looking, Sending, Slotted, SlotPlanned, Ready, Walked, AllUnderWay, Ran};
+ghost use Rattle.slack.specs.Slack.{traffic, OnRing, slackOf, anyUnderWay};
+ghost use Rattle.slack.specs.Figure.{turnOf, figureOf, figuresOf};
+ghost use Rattle.slack.specs.Steps.{board, Placed, seen, turned, less, stamped, Looking, Turning, Sending, Slotted, SlotPlannedBy};
 use lists::clear;
 use ring::Links;
 use ring::Node;
@@ -50,10 +51,37 @@ pub fn any_under_way(left: &[u16]) -> bool
     false
 }
 
-// Looks at row i: where it is under way, its node sends it unless the row that the node would send so far has no more slack.
-fn look(nodes: u16, dst: &[u16], due: &[u16], left: &[u16], t: Slot, i: usize, slot: &mut [u16])
-    requires { ⌜ Looking (traffic nodes (now dst) (now due)) (t .0) (now left) i (now slot) ⌝ }
-    ensures { λ _. ⌜ now (slot .exit) ≡ seen (traffic nodes (now (dst .entry)) (now (due .entry))) (t .0) (now (left .entry)) (suc i) ⌝ }
+// N for a row that is beyond its destination, with node 0 still ahead of it, and else 0.
+fn turn_of(nodes: u16, dst: Node, left: Links) -> u16
+    ensures { λ r. ⌜ r ≡ turnOf nodes (dst .0) (left .0) ⌝ }
+{
+    if dst.0 < left.0 { nodes } else { 0 }
+}
+
+// The figure of a row: its due slot less its destination, less N while it is beyond it.
+fn figure_of(nodes: u16, dst: Node, due: Slot, left: Links) -> i32
+    ensures { λ r. ⌜ r ≡ figureOf nodes (dst .0) (due .0) (left .0) ⌝ }
+{
+    let turn = turn_of(nodes, dst, left);
+    (due.0 as i32) - (dst.0 as i32) - (turn as i32)
+}
+
+// Writes down the figure of each row.
+pub fn write_figures(nodes: u16, dst: &[u16], due: &[u16], left: &[u16], figure: &mut [i32])
+    requires { ⌜ OnRing (traffic nodes (now dst) (now due)) (now left) × (length (now figure) ≡ length (now left)) ⌝ }
+    ensures { λ _. ⌜ now (figure .exit) ≡ figuresOf (traffic nodes (now (dst .entry)) (now (due .entry))) (now (left .entry)) ⌝ }
+{
+    let mut i = 0;
+    while i < figure.len() {
+        figure[i] = figure_of(nodes, Node(dst[i]), Slot(due[i]), Links(left[i]));
+        i += 1;
+    }
+}
+
+// Looks at row i: where it is under way, its node sends it unless the row that the node would send so far has no higher figure.
+fn look(nodes: u16, dst: &[u16], left: &[u16], figure: &[i32], i: usize, slot: &mut [u16])
+    requires { ⌜ Looking (board nodes (now dst) (now left) (now figure)) i (now slot) ⌝ }
+    ensures { λ _. ⌜ now (slot .exit) ≡ seen (board nodes (now (dst .entry)) (now (left .entry)) (now (figure .entry))) (suc i) ⌝ }
 {
     let to_go = left[i];
     if to_go == 0 {
@@ -67,23 +95,35 @@ fn look(nodes: u16, dst: &[u16], due: &[u16], left: &[u16], t: Slot, i: usize, s
         return;
     }
     let b = (best - 1) as usize;
-    let rival = slack(Slot(due[b]), t, Links(left[b]));
-    if slack(Slot(due[i]), t, Links(to_go)) < rival {
+    if figure[i] < figure[b] {
         slot[p] = (i + 1) as u16;
     }
 }
 
-// Says what each link carries in slot t: its node's row of least slack.
-pub fn choose(nodes: u16, dst: &[u16], due: &[u16], left: &[u16], t: Slot, slot: &mut [u16])
-    requires { ⌜ OnRing (traffic nodes (now dst) (now due)) (now left) × (length (now left) < 2 ^ 16) × (length (now slot) ≡ nodes) ⌝ }
-    ensures { λ _. ⌜ now (slot .exit) ≡ slotOf (traffic nodes (now (dst .entry)) (now (due .entry))) (t .0) (now (left .entry)) ⌝ }
+// Says what each link carries: its node's row of lowest figure. No instant counts here, since the figures stand still.
+pub fn choose(nodes: u16, dst: &[u16], left: &[u16], figure: &[i32], slot: &mut [u16])
+    requires { ⌜ Placed (board nodes (now dst) (now left) (now figure)) × (length (now left) < 2 ^ 16) × (length (now slot) ≡ nodes) ⌝ }
+    ensures { λ _. ⌜ now (slot .exit) ≡ seen (board nodes (now (dst .entry)) (now (left .entry)) (now (figure .entry))) (length (now (left .entry))) ⌝ }
 {
     clear(slot);
     let mut i = 0;
     while i < left.len() {
-        look(nodes, dst, due, left, t, i, slot);
+        look(nodes, dst, left, figure, i, slot);
         i += 1;
     }
+}
+
+// Corrects the figure of the row that the last link carries: it passes node 0.
+fn pass_node_0(nodes: u16, slot: &[u16], figure: &mut [i32])
+    requires { ⌜ Turning nodes (now slot) (now figure) ⌝ }
+    ensures { λ _. ⌜ now (figure .exit) ≡ turned nodes (now (slot .entry)) (now (figure .entry)) ⌝ }
+{
+    let row = slot[nodes as usize - 1];
+    if row == 0 {
+        return;
+    }
+    let i = (row - 1) as usize;
+    figure[i] = figure[i] + nodes as i32;
 }
 
 // Moves the rows that a slot names one link on, and stamps each with the instant at which the slot ends.
@@ -108,80 +148,16 @@ pub fn send(t: Slot, slot: &[u16], left: &mut [u16], arrivals: &mut [u16])
 pub fn plan_slot(
     nodes: u16,
     dst: &[u16],
-    due: &[u16],
     t: Slot,
     left: &mut [u16],
+    figure: &mut [i32],
     slot: &mut [u16],
     arrivals: &mut [u16],
 )
-    requires { ⌜ Slotted (traffic nodes (now dst) (now due)) (t .0) (now left) (now slot) (now arrivals) ⌝ }
-    ensures { λ _. ⌜ SlotPlanned (traffic nodes (now (dst .entry)) (now (due .entry))) (t .0) (now (left .entry)) (now (arrivals .entry)) (now (slot .exit)) (now (left .exit)) (now (arrivals .exit)) ⌝ }
+    requires { ⌜ Slotted nodes (now dst) (t .0) (now left) (now figure) (now slot) (now arrivals) ⌝ }
+    ensures { λ _. ⌜ SlotPlannedBy nodes (now (dst .entry)) (t .0) (now (left .entry)) (now (figure .entry)) (now (arrivals .entry)) (now (slot .exit)) (now (left .exit)) (now (figure .exit)) (now (arrivals .exit)) ⌝ }
 {
-    choose(nodes, dst, due, left, t, slot);
+    choose(nodes, dst, left, figure, slot);
+    pass_node_0(nodes, slot, figure);
     send(t, slot, left, arrivals);
-}
-
-// Walks over the instants until no row is under way, and over the rows at each; it is left at the first row that is late.
-pub fn walk(
-    nodes: u16,
-    dst: &[u16],
-    due: &[u16],
-    left: &mut [u16],
-    plan: &mut [u16],
-    arrivals: &mut [u16],
-) -> Stop
-    requires { ⌜ Ready (traffic nodes (now dst) (now due)) (now left) (now plan) (now arrivals) ⌝ }
-    ensures { λ r. ⌜ Walked (traffic nodes (now (dst .entry)) (now (due .entry))) (now (left .entry)) (now (plan .entry)) (now (arrivals .entry)) r (now (plan .exit)) (now (arrivals .exit)) ⌝ }
-{
-    let mut t = 0u16;
-    let mut late = 0u16;
-    'instants: while any_under_way(left) {
-        let mut i = 0;
-        while i < left.len() {
-            if is_late(Slot(due[i]), Slot(t), Links(left[i])) {
-                late = (i + 1) as u16;
-                break 'instants;
-            }
-            i += 1;
-        }
-        let first = t as usize * nodes as usize;
-        let next = first + nodes as usize;
-        plan_slot(
-            nodes,
-            dst,
-            due,
-            Slot(t),
-            left,
-            &mut plan[first..next],
-            arrivals,
-        );
-        t += 1;
-    }
-    Stop {
-        row: late,
-        slot: Slot(t),
-    }
-}
-
-// Plans a whole run: the plan and the arrivals where every row is in time, and both areas cleared where one is late.
-pub fn run(
-    nodes: u16,
-    dst: &[u16],
-    due: &[u16],
-    left: &mut [u16],
-    plan: &mut [u16],
-    arrivals: &mut [u16],
-) -> Stop
-    requires { ⌜ Ready (traffic nodes (now dst) (now due)) (now left) (now plan) (now arrivals) × AllUnderWay (now left) ⌝ }
-    ensures { λ r. ⌜ Ran (traffic nodes (now (dst .entry)) (now (due .entry))) (now (left .entry)) (length (now (plan .entry))) r (now (plan .exit)) (now (arrivals .exit)) ⌝ }
-{
-    let stop = walk(nodes, dst, due, left, plan, arrivals);
-    if stop.row == 0 {
-        let idle = stop.slot.0 as usize * nodes as usize;
-        clear(&mut plan[idle..]);
-    } else {
-        clear(plan);
-        clear(arrivals);
-    }
-    stop
 }

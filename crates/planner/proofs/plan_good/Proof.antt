@@ -5,7 +5,8 @@ use native.Mathlib.Omega.{arith}
 use Prim.Native.Nat.{_*_}
 use lib.ListN.{length, drop}
 use lib.Seq.{length-take-le}
-use Rattle.planner.proofs.Good.{front-long, front-again, front-fits, measuring, room-small, runnable, short-plan, short-arrivals, planned-with}
+use Rattle.lists.proofs.Fronts.{front-long, front-again, front-fits}
+use Rattle.planner.proofs.Good.{measuring, room-small, runnable, short-plan, short-arrivals, planned-with}
 use borrow.Author.Needs.{needs}
 use Rattle.planner.proofs.plan_good.Statement.{statement}
 use Rattle.planner.proofs.plan_good.Tie as tie
@@ -54,28 +55,28 @@ slice-aggregate-measure c =
     let a = c .before .before .before .before .before .before .before .before .before .before .args in
     let k = c .before .before .before .before .before .before .before .before .before .before .pre .0 in
     let good = c .before .before .before .before .before .before .before .before .before .before .pre .1 in
-    front-long (length (a .src .now)) _ (c .before .zeros .ensures) (k .same .few)
+    front-long 512 (length (a .src .now)) 0 _ (c .before .zeros .ensures) (k .same .few)
 
 measure-requires : tie.Need-measure-requires
 measure-requires c κs =
     let a = c .before .before .before .before .before .before .before .before .before .before .args in
     let k = c .before .before .before .before .before .before .before .before .before .before .pre .0 in
     let good = c .before .before .before .before .before .before .before .before .before .before .pre .1 in
-    measuring (a .nodes) (a .src .now) (a .dst .now) (a .due .now) k good _ (sym (front-long (length (a .src .now)) _ (c .before .zeros .ensures) (k .same .few)))
+    measuring (a .nodes) (a .src .now) (a .dst .now) (a .due .now) k good _ (sym (front-long 512 (length (a .src .now)) 0 _ (c .before .zeros .ensures) (k .same .few)))
 
 array-borrow-prefix-left-2 : tie.Need-array-borrow-prefix-left-2
 array-borrow-prefix-left-2 c =
     let a = c .before .before .before .before .before .before .before .before .before .before .before .before .args in
     let k = c .before .before .before .before .before .before .before .before .before .before .before .before .pre .0 in
     let good = c .before .before .before .before .before .before .before .before .before .before .before .before .pre .1 in
-    front-fits (length (a .src .now)) (c .before .measure .last .1 .1 .1 .0) (drop (length (a .src .now)) (c .before .before .before .zeros .result)) (c .before .measure .kept .1 .1 .1 .0 ∙ sym (front-long (length (a .src .now)) _ (c .before .before .before .zeros .ensures) (k .same .few)))
+    front-fits (length (a .src .now)) (c .before .measure .last .1 .1 .1 .0) (drop (length (a .src .now)) (c .before .before .before .zeros .result)) (c .before .measure .kept .1 .1 .1 .0 ∙ sym (front-long 512 (length (a .src .now)) 0 _ (c .before .before .before .zeros .ensures) (k .same .few)))
 
 slice-aggregate-plan-run : tie.Need-slice-aggregate-plan-run
 slice-aggregate-plan-run c =
     let a = c .before .before .before .before .before .before .before .before .before .before .before .before .before .args in
     let k = c .before .before .before .before .before .before .before .before .before .before .before .before .before .pre .0 in
     let good = c .before .before .before .before .before .before .before .before .before .before .before .before .before .pre .1 in
-    sym (ap length (front-again (length (a .src .now)) (c .before .before .measure .last .1 .1 .1 .0) (drop (length (a .src .now)) (c .before .before .before .before .zeros .result)) (c .before .before .measure .kept .1 .1 .1 .0 ∙ sym (front-long (length (a .src .now)) _ (c .before .before .before .before .zeros .ensures) (k .same .few)))) ∙ (c .before .before .measure .kept .1 .1 .1 .0 ∙ sym (front-long (length (a .src .now)) _ (c .before .before .before .before .zeros .ensures) (k .same .few))))
+    sym (ap length (front-again (length (a .src .now)) (c .before .before .measure .last .1 .1 .1 .0) (drop (length (a .src .now)) (c .before .before .before .before .zeros .result)) (c .before .before .measure .kept .1 .1 .1 .0 ∙ sym (front-long 512 (length (a .src .now)) 0 _ (c .before .before .before .before .zeros .ensures) (k .same .few)))) ∙ (c .before .before .measure .kept .1 .1 .1 .0 ∙ sym (front-long 512 (length (a .src .now)) 0 _ (c .before .before .before .before .zeros .ensures) (k .same .few))))
 
 slice-relend-prefix-plan-run : tie.Need-slice-relend-prefix-plan-run
 slice-relend-prefix-plan-run c = search needs
@@ -102,7 +103,7 @@ plan-run-requires c κs =
     let a = c .before .before .before .before .before .before .before .before .before .before .before .before .before .before .before .args in
     let k = c .before .before .before .before .before .before .before .before .before .before .before .before .before .before .before .pre .0 in
     let good = c .before .before .before .before .before .before .before .before .before .before .before .before .before .before .before .pre .1 in
-    runnable (a .nodes) (a .src .now) (a .dst .now) (a .due .now) k good _ _ _ (front-again (length (a .src .now)) (c .before .before .before .before .measure .last .1 .1 .1 .0) (drop (length (a .src .now)) (c .before .before .before .before .before .before .zeros .result)) (c .before .before .before .before .measure .kept .1 .1 .1 .0 ∙ sym (front-long (length (a .src .now)) _ (c .before .before .before .before .before .before .zeros .ensures) (k .same .few))) ∙ c .before .before .before .before .measure .ensures)
+    runnable (a .nodes) (a .src .now) (a .dst .now) (a .due .now) k good _ _ _ (front-again (length (a .src .now)) (c .before .before .before .before .measure .last .1 .1 .1 .0) (drop (length (a .src .now)) (c .before .before .before .before .before .before .zeros .result)) (c .before .before .before .before .measure .kept .1 .1 .1 .0 ∙ sym (front-long 512 (length (a .src .now)) 0 _ (c .before .before .before .before .before .before .zeros .ensures) (k .same .few))) ∙ c .before .before .before .before .measure .ensures)
     (length-take-le _ (a .plan .now) (omega arith) ∙ ap (λ g. a .nodes * g) (c .before .before .before .before .before .before .before .before .before .greatest .ensures)) (length-take-le _ (a .arrivals .now) (omega arith))
 
 same-length : tie.Need-same-length
@@ -117,7 +118,7 @@ returns-3 c =
     let k = c .before .before .before .before .before .before .before .before .before .before .before .before .before .before .before .before .before .before .before .before .before .pre .0 in
     let good = c .before .before .before .before .before .before .before .before .before .before .before .before .before .before .before .before .before .before .before .before .before .pre .1 in
     planned-with (a .nodes) (a .src .now) (a .dst .now) (a .due .now) k good (a .plan .now) (a .arrivals .now) _ (c .before .before .before .before .before .before .before .before .before .before .before .before .before .before .before .greatest .ensures) _ _ _ _
-    (front-again (length (a .src .now)) (c .before .before .before .before .before .before .before .before .before .before .measure .last .1 .1 .1 .0) (drop (length (a .src .now)) (c .before .before .before .before .before .before .before .before .before .before .before .before .zeros .result)) (c .before .before .before .before .before .before .before .before .before .before .measure .kept .1 .1 .1 .0 ∙ sym (front-long (length (a .src .now)) _ (c .before .before .before .before .before .before .before .before .before .before .before .before .zeros .ensures) (k .same .few))) ∙ c .before .before .before .before .before .before .before .before .before .before .measure .ensures) (omega arith) (omega arith) (c .before .before .before .before .before .plan-run .ensures)
+    (front-again (length (a .src .now)) (c .before .before .before .before .before .before .before .before .before .before .measure .last .1 .1 .1 .0) (drop (length (a .src .now)) (c .before .before .before .before .before .before .before .before .before .before .before .before .zeros .result)) (c .before .before .before .before .before .before .before .before .before .before .measure .kept .1 .1 .1 .0 ∙ sym (front-long 512 (length (a .src .now)) 0 _ (c .before .before .before .before .before .before .before .before .before .before .before .before .zeros .ensures) (k .same .few))) ∙ c .before .before .before .before .before .before .before .before .before .before .measure .ensures) (omega arith) (omega arith) (c .before .before .before .before .before .plan-run .ensures)
 
 pub plan-good-spec : {M : Type 1} → statement M
 plan-good-spec =

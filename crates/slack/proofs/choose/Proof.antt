@@ -5,29 +5,27 @@ use Prim.Native.Nat.{_≤_, _-_}
 use native.Mathlib.Numerals.{add-one}
 use native.Mathlib.Omega.{arith}
 use lib.ListN.{length}
-use Rattle.slack.specs.Slack.{traffic}
-use Rattle.slack.specs.Steps.{seen}
-use Rattle.slack.proofs.Looking.{none-looked, all-looked, seen-length}
+use Rattle.slack.specs.Steps.{board, seen}
+use Rattle.slack.proofs.Looking.{none-looked, seen-length}
 use Rattle.slack.proofs.choose.Statement.{statement}
 use Rattle.slack.proofs.choose.Tie as tie
 
 abbrev Inv-loop : tie.InvT-loop
-Inv-loop nodes dst due left t slot₀ i₀ slot i = (i ≤ length left) × (slot ≡ seen (traffic nodes dst due) (t .0) left i)
+Inv-loop nodes dst left figure slot₀ i₀ slot i = (i ≤ length left) × (slot ≡ seen (board nodes dst left figure) i)
 
 abbrev μ-loop : tie.MeasureT-loop
-μ-loop nodes dst due left t slot₀ i₀ slot i = length left - i
+μ-loop nodes dst left figure slot₀ i₀ slot i = length left - i
 
 clear-requires : tie.Need-clear-requires Inv-loop μ-loop
 clear-requires c κs = tt
 
 loop-holds : tie.Need-loop-holds Inv-loop μ-loop
 loop-holds c =
-    let a = c .before .before .before .before .before .before .before .before .args in
-    let T = traffic (a .nodes) (a .dst .now) (a .due .now) in
-    (omega arith, c .before .before .clear .ensures ∙ none-looked T (a .t .0) (a .left .now) _ (c .before .before .before .before .before .before .before .before .pre .2))
+    let a = c .before .before .before .before .before .before .before .args in
+    (omega arith, c .before .before .clear .ensures ∙ none-looked (board (a .nodes) (a .dst .now) (a .left .now) (a .figure .now)) _ (c .before .before .before .before .before .before .before .pre .2))
 
 look-requires : tie.Need-look-requires Inv-loop μ-loop
-look-requires c κs = record { ring = c .before .before .before .before .before .before .before .before .before .before .before .pre .0; few = c .before .before .before .before .before .before .before .before .before .before .before .pre .1; row = omega arith; so-far = c .before .before .loop .inv .1 }
+look-requires c κs = record { placed = c .before .before .before .before .before .before .before .before .before .before .pre .0; few = c .before .before .before .before .before .before .before .before .before .before .pre .1; row = omega arith; so-far = c .before .before .loop .inv .1 }
 
 add-i : tie.Need-add-i Inv-loop μ-loop
 add-i c = omega arith
@@ -40,17 +38,15 @@ loop-again c = (omega arith, c .before .before .look .ensures ∙ rw (add-one))
 
 same-length : tie.Need-same-length Inv-loop μ-loop
 same-length c =
-    let a = c .before .before .before .before .before .before .before .before .before .before .args in
-    let T = traffic (a .nodes) (a .dst .now) (a .due .now) in
-    let all : length (c .before .loop .slot) ≡ T .nodes = ap length (c .before .loop .inv .1) ∙ seen-length T (a .t .0) (a .left .now) (c .before .loop .i) in
-    omega (arith, c .before .before .before .before .before .before .before .before .before .before .pre .2)
+    let a = c .before .before .before .before .before .before .before .before .before .args in
+    let all : length (c .before .loop .slot) ≡ a .nodes = ap length (c .before .loop .inv .1) ∙ seen-length (board (a .nodes) (a .dst .now) (a .left .now) (a .figure .now)) (c .before .loop .i) in
+    omega (arith, c .before .before .before .before .before .before .before .before .before .pre .2)
 
 returns : tie.Need-returns Inv-loop μ-loop
 returns c =
-    let a = c .before .before .before .before .before .before .before .before .before .before .args in
-    let T = traffic (a .nodes) (a .dst .now) (a .due .now) in
+    let a = c .before .before .before .before .before .before .before .before .before .args in
     let all : c .before .loop .i ≡ length (a .left .now) = omega arith in
-    c .before .loop .inv .1 ∙ rw all (all-looked T (a .t .0) (a .left .now))
+    c .before .loop .inv .1 ∙ rw all
 
 pub choose-spec : {M : Type 1} → statement M
 choose-spec =

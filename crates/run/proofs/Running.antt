@@ -14,13 +14,14 @@ use lib.Seq.{take-at, length-take-le}
 use Rattle.lists.specs.Lists.{largest}
 use Rattle.lists.proofs.Figures.{at-most-largest}
 use Rattle.lists.proofs.Build.{length-build, getD-build, build-ext, build-const, is-build}
 use Rattle.slack.specs.Slack.{Traffic, OnRing, underWay, pick, slotOf, stateAt, planOf, deliveredFrom, arrivalsOf, anyUnderWay}
-use Rattle.slack.specs.Steps.{named, stamped, stampedBy, Ready, Walked, AllUnderWay, Ran}
+use Rattle.slack.specs.Steps.{named, stamped}
+use Rattle.run.specs.Steps.{stampedBy, Ready, Walked, AllUnderWay, Ran}
 use Rattle.slack.specs.declared.Stop.{Stop}
 use Rattle.slack.proofs.Ending.{stop-first, stop-delivered}
 use Rattle.slack.proofs.Rule.{pick-least, state-length, state-on-ring, moved-entry, moved-less, none-under-way}
-use Rattle.slack.proofs.Walking.{plan-length}
+use Rattle.run.proofs.Walking.{plan-length}
 use Rattle.slack.proofs.Sending.{named-there, named-under-way}
 
 -- links to go at an instant
 abbrev togo : Traffic → List ℕ → ℕ → ℕ → ℕ

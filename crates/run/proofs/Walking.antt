@@ -10,14 +10,17 @@ use borrow.Author.Tests.{ne-eqb}
 use borrow.Rule.Slice.PartMut.{putMid, same-len-mid}
 use mathlib.Core.List.{List, _++_, append-assoc}
 use lib.Dec.{eqb}
+use lib.IntN.{ℤ}
 use lib.ListN.{length, getD, take, drop, length-append, length-drop}
 use lib.Seq.{take-at, drop-at, drop-drop, length-take-le}
 use Rattle.lists.specs.Lists.{largest}
 use Rattle.lists.proofs.Build.{length-build}
 use Rattle.lists.proofs.Figures.{at-most-largest}
 use Rattle.slack.specs.Slack.{Traffic, OnRing, isLate, lateFrom, lateRow, slotOf, moved, stateAt, planOf, anyUnderWay, stopFrom, stopOf}
-use Rattle.slack.specs.Steps.{stamped, stampedBy, Slotted, SlotPlanned, Ready, Walked}
+use Rattle.slack.specs.Figure.{figuresOf}
+use Rattle.slack.specs.Steps.{stamped, Slotted, SlotPlanned}
+use Rattle.run.specs.Steps.{stampedBy, Ready, Walked}
 use Rattle.slack.proofs.Rule.{state-length, state-on-ring, late-none, none-late, not-late-then, then-not-late, some-under-way, none-under-way}
 
 -- the search for the lowest late row, one row further on
 module _ (T : Traffic) (t : ℕ) (left : List ℕ) where
@@ -154,19 +157,25 @@ module _ (T : Traffic) (start plan₀ arrivals₀ : List ℕ) (ready : Ready T s
           let k : t * T .nodes + T .nodes - t * T .nodes ≡ T .nodes = omega arith in
           rw k (length-take-le (T .nodes) (drop (t * T .nodes) plan) (rw (length-drop (t * T .nodes) plan) (omega (arith, has-room))))
 
-      pub can-plan : Slotted T t left (take (t * T .nodes + T .nodes - t * T .nodes) (drop (t * T .nodes) plan)) arrivals
-      can-plan =
+      pub can-plan : (figures : List ℤ) → figures ≡ figuresOf T left → Slotted (T .nodes) (T .dst) t left figures (take (t * T .nodes + T .nodes - t * T .nodes) (drop (t * T .nodes) plan)) arrivals
+      can-plan figures figured =
           record {
+            due = T .due;
             ring = ring;
+            figured = figured;
             few = omega (arith, g .left-long, ready .few);
+            small = λ i l. omega (arith, at-most-largest (T .due) i, ready .soon);
             soon = omega (arith, before-last, ready .soon);
             links = part-long;
             rows = g .arrivals-long ∙ sym (g .left-long);
           }
 
-      pub again : (slot left′ arrivals′ : List ℕ) → SlotPlanned T t left arrivals slot left′ arrivals′
+      pub on-ring : OnRing T left
+      on-ring = ring
+
+      pub again : (slot left′ : List ℕ) (figures′ : List ℤ) (arrivals′ : List ℕ) → SlotPlanned T t left arrivals slot left′ figures′ arrivals′
           → Going T start plan₀ arrivals₀ (t + 1) late left′ (putMid (t * T .nodes) (t * T .nodes + T .nodes - t * T .nodes) plan slot) arrivals′
-      again slot left′ arrivals′ done =
+      again slot left′ figures′ arrivals′ done =
           record {
             none-yet = g .none-yet;
             state = next-state;
