@@ -8,8 +8,7 @@ use Prim.Native.Nat.{ℕ, _+_, _≤_}
 use native.Mathlib.Omega.{arith}
 use lib.ListN.{length, length-append}
 use Rattle.text.specs.Steps.{pasted}
-use Rattle.text.proofs.Pasting.{pasted-length, pasted-more}
-use Rattle.text.proofs.Placing.{pasted-none}
+use Rattle.text.proofs.Pasting.{pasted-none, pasted-length, pasted-more}
 use Rattle.report.specs.Steps.{Put, Room}
 
 -- Of the bytes `whole`, those before `rest` stand at their place in the area.

@@ -1,10 +1,12 @@
--- Bytes written into an area, and the bytes of a number behind a key.
---     tenth-more, last-at           the digits of a number one by one
---     key-byte, digit-byte, end-byte   the bytes of a number behind a key
---     pasted-all, pasted-length, pasted-more   pieces written one behind the other
+-- Bytes written into an area, and the digits of a numeral.
+--     tenth-more, tenth-done, numeral-byte     the digits of a number one by one
+--     put-more, put-all, byte-placed           bytes written one by one, and one byte alone
+--     pasted-none, pasted-length, pasted-more  nothing written, and a piece behind another
+--     two-fits, three-fits, three-placed, three-long   three pieces written one behind the other
+--     key-fits, numeral-fits, mark-fits, item-long, item-placed   the three pieces of a number behind a key
 -- Assumes nothing.
 use mathlib.Core.Path.{_≡_, refl, _∙_, ap, sym}
-use mathlib.Core.List.{List, [], _∷_, _++_, append-assoc}
+use mathlib.Core.List.{List, [], _∷_, _++_, append-assoc, append-nil}
 use Prim.Native.Nat.{ℕ, zero, suc, _+_, _-_, _/_, _%_, _≤_, _<_}
 use native.Mathlib.Nat.{not-suc-le-zero}
 use native.Mathlib.Omega.{arith}
@@ -12,12 +14,11 @@ use native.Mathlib.Numerals.{add-one}
 use mathlib.Core.Bool.{Bool, true, false}
 use borrow.Author.Tests.{ltb-true, ltb-false}
 use lib.Dec.{ltb}
-use lib.ListN.{length, getD, take, drop, set, length-append, length-drop, List·getD-append}
-use lib.Seq.{paste, paste-suc, take-length, take-at, drop-at, drop-drop, length-take-le, getD-append-add, getD-at}
-use Rattle.text.specs.Text.{width, lastDigits, numeral, item, line}
+use lib.ListN.{length, getD, take, drop, set, length-append, length-drop, take-append-drop, List·getD-append}
+use lib.Seq.{paste, paste-zero, paste-suc, take-length, take-at, drop-at, drop-drop, length-take-le, getD-at}
+use Rattle.text.specs.Text.{width, lastDigits, numeral, item}
 use Rattle.text.specs.Steps.{tenth, pasted}
-use Rattle.text.proofs.Numeral.{last-length, numeral-length}
-use Rattle.text.proofs.Lines.{line-length}
+use Rattle.text.proofs.Numeral.{last-length}
 
 pub tenth-more : (place i v rest : ℕ) → i < place → tenth place v ≡ tenth (place - i) rest → tenth place v ≡ tenth (place - (i + 1)) (rest / 10)
 unfolding tenth
@@ -44,30 +45,10 @@ last-at (suc k) v i h = go (ltb i k) refl (last-at k (v / 10) i)
         let none : suc k - 1 - i ≡ 0 = omega arith in
         rw none (getD-at (lastDigits k (v / 10)) (48 + v % 10) [] 0 i (last-length k (v / 10) ∙ last))
 
--- a line has as many bytes as any other number behind that key
-pub item-as-long : (key : List ℕ) (v mark : ℕ) → length (line key v) ≡ length (item key v mark)
-unfolding line
-item-as-long key v mark = simp length-append
-
-module _ (key : List ℕ) (v mark j : ℕ) where
-  pub key-byte : j < length key → getD key j 0 ≡ getD (item key v mark) j 0
-  key-byte h = sym (List·getD-append key (numeral v ++ (mark ∷ [])) 0 j h)
-
-  module _ (past : length key ≤ j) where
-    behind : getD (item key v mark) j 0 ≡ getD (numeral v ++ (mark ∷ [])) (j - length key) 0
-    behind =
-        let sum : length key + (j - length key) ≡ j = omega arith in
-        ap (λ (i : ℕ). getD (key ++ (numeral v ++ (mark ∷ []))) i 0) (sym sum) ∙ getD-append-add key (numeral v ++ (mark ∷ [])) (j - length key) 0
-
-    pub digit-byte : (w : ℕ) → w ≡ width v → j - length key < w → 48 + tenth (w - 1 - (j - length key)) v % 10 ≡ getD (item key v mark) j 0
-    unfolding numeral
-    digit-byte w e h =
-        let short : j - length key < length (numeral v) = omega (arith, numeral-length v) in
-        sym (behind ∙ List·getD-append (numeral v) (mark ∷ []) 0 (j - length key) short ∙ last-at (width v) v (j - length key) (omega arith) ∙ rw e)
-
-    pub end-byte : (w : ℕ) → w ≡ width v → w ≤ j - length key → j < length (item key v mark) → mark ≡ getD (item key v mark) j 0
-    end-byte w e h l =
-        sym (behind ∙ getD-at (numeral v) mark [] 0 (j - length key) (omega (arith, numeral-length v, line-length key v, item-as-long key v mark)))
+-- a byte of a numeral, where w is its length
+pub numeral-byte : (v j w : ℕ) → w ≡ width v → j < w → 48 + tenth (w - 1 - j) v % 10 ≡ getD (numeral v) j 0
+unfolding numeral
+numeral-byte v j w e h = sym (last-at (width v) v j (omega arith) ∙ rw e)
 
 module _ (area : List ℕ) (at : ℕ) where
   pub pasted-all : (bytes : List ℕ) → paste area at bytes (length bytes) ≡ pasted area at bytes
@@ -98,3 +79,70 @@ module _ (area₀ : List ℕ) (at : ℕ) (bytes : List ℕ) (fits : at + length 
 
   pub put-all : (j : ℕ) (area : List ℕ) → j ≡ length bytes → area ≡ paste area₀ at bytes j → area ≡ pasted area₀ at bytes
   put-all j area e so = so ∙ rw e (pasted-all area₀ at bytes)
+
+pub byte-placed : (area : List ℕ) (at b : ℕ) → at < length area → set area at b ≡ pasted area at (b ∷ [])
+byte-placed area at b h =
+    let here : at + 0 ≡ at = omega arith in
+    put-all area at (b ∷ []) (omega arith) 1 (set area at b) refl (rw here at (put-more area at (b ∷ []) (omega arith) 0 area b (omega arith) refl (paste-zero area at (b ∷ []))))
+
+pub pasted-none : (area : List ℕ) (at : ℕ) → area ≡ pasted area at []
+unfolding pasted
+pasted-none area at =
+    let none : at + 0 ≡ at = omega arith in
+    sym (rw (none, append-nil) (take-append-drop at area))
+
+module _ (area₀ : List ℕ) (at : ℕ) (a b d : List ℕ) (fits : at + (length a + length b + length d) ≤ length area₀) where
+  one-fits : at + length a ≤ length area₀
+  one-fits = omega arith
+
+  module _ (p₁ : ℕ) (area₁ : List ℕ) (place₁ : p₁ ≡ at + length a) (so₁ : area₁ ≡ pasted area₀ at a) where
+    long₁ : length area₁ ≡ length area₀
+    long₁ = ap length so₁ ∙ pasted-length area₀ at a one-fits
+
+    pub two-fits : p₁ + length b ≤ length area₁
+    two-fits = omega (arith, long₁)
+
+    module _ (p₂ : ℕ) (area₂ : List ℕ) (place₂ : p₂ ≡ p₁ + length b) (so₂ : area₂ ≡ pasted area₁ p₁ b) where
+      long₂ : length area₂ ≡ length area₀
+      long₂ = ap length so₂ ∙ pasted-length area₁ p₁ b two-fits ∙ long₁
+
+      pub three-fits : p₂ + length d ≤ length area₂
+      three-fits = omega (arith, long₂)
+
+      joined : area₂ ≡ pasted area₀ at (a ++ b)
+      joined = so₂ ∙ rw (so₁, place₁) (pasted-more area₀ at a one-fits b)
+
+      pub three-placed : (area₃ : List ℕ) → area₃ ≡ pasted area₂ p₂ d → area₃ ≡ pasted area₀ at (a ++ (b ++ d))
+      three-placed area₃ so₃ =
+          let place : p₂ ≡ at + length (a ++ b) = omega (arith, length-append a b) in
+          so₃ ∙ rw (joined, place) (pasted-more area₀ at (a ++ b) (omega (arith, length-append a b)) d) ∙ ap (pasted area₀ at) (append-assoc a b d)
+
+      pub three-long : (area₃ : List ℕ) → area₃ ≡ pasted area₂ p₂ d → length area₃ ≡ length area₀
+      three-long area₃ so₃ = ap length so₃ ∙ pasted-length area₂ p₂ d three-fits ∙ long₂
+
+-- a number behind a key is three pieces: the key, the numeral and the mark
+module _ (area₀ : List ℕ) (at : ℕ) (key : List ℕ) (v mark : ℕ) (fits : at + length (item key v mark) ≤ length area₀) where
+  item-length : length (item key v mark) ≡ length key + length (numeral v) + 1
+  item-length = simp length-append (omega arith)
+
+  pieces-fit : at + (length key + length (numeral v) + 1) ≤ length area₀
+  pieces-fit = omega (arith, item-length)
+
+  pub key-fits : at + length key ≤ length area₀
+  key-fits = omega (arith, pieces-fit)
+
+  module _ (p₁ : ℕ) (area₁ : List ℕ) (one : (p₁ ≡ at + length key) × (area₁ ≡ pasted area₀ at key)) where
+    pub numeral-fits : p₁ + length (numeral v) ≤ length area₁
+    numeral-fits = two-fits area₀ at key (numeral v) (mark ∷ []) pieces-fit p₁ area₁ (one .0) (one .1)
+
+    module _ (p₂ : ℕ) (area₂ : List ℕ) (two : (p₂ ≡ p₁ + length (numeral v)) × (area₂ ≡ pasted area₁ p₁ (numeral v))) where
+      pub mark-fits : p₂ < length area₂
+      mark-fits = omega (arith, three-fits area₀ at key (numeral v) (mark ∷ []) pieces-fit p₁ area₁ (one .0) (one .1) p₂ area₂ (two .0) (two .1))
+
+      pub item-long : length (set area₂ p₂ mark) ≡ length area₀
+      item-long =
+          three-long area₀ at key (numeral v) (mark ∷ []) pieces-fit p₁ area₁ (one .0) (one .1) p₂ area₂ (two .0) (two .1) (set area₂ p₂ mark) (byte-placed area₂ p₂ mark mark-fits)
+
+      pub item-placed : (p₂ + 1 ≡ at + length (item key v mark)) × (set area₂ p₂ mark ≡ pasted area₀ at (item key v mark))
+      item-placed =
+          (omega (arith, item-length, one .0, two .0), three-placed area₀ at key (numeral v) (mark ∷ []) pieces-fit p₁ area₁ (one .0) (one .1) p₂ area₂ (two .0) (two .1) (set area₂ p₂ mark) (byte-placed area₂ p₂ mark mark-fits))

@@ -4,7 +4,7 @@ ghost use Prim.Native.Nat.{ℕ, min, _+_, _-_, _*_, _%_, _≤_, _<_};
 ghost use lib.ListN.{length, getD, drop, replicate};
 ghost use Rattle.table.specs.Table.{refuse};
 ghost use Rattle.table.specs.Steps.{listed, columns};
-ghost use Rattle.text.specs.Text.{TextParsed, starts, width, filled, item, line, rowText, rowsText, writingOf, areaAfter, digit-zero, TextTaken, TextPut};
+ghost use Rattle.text.specs.Text.{TextParsed, starts, width, filled, numeral, item, line, rowText, rowsText, writingOf, areaAfter, digit-zero, TextTaken, TextPut};
 ghost use Rattle.text.specs.Steps.{figuresIn, lineSeen, rowSeen, RowsTaken, TextRead, tenth, pasted, held};
 use lists::zeros;
 use ring::Slot;
@@ -307,20 +307,32 @@ fn line_length(key: &[u8], v: u16) -> usize
     key.len() + width_of(v as u32) + 1
 }
 
-// A byte of a number behind a key: of the key, of the numeral, or the mark.
-fn item_byte(key: &[u8], v: u16, mark: u8, j: usize) -> u8
-    requires { ⌜ j < length (item (now key) v mark) ⌝ }
-    ensures { λ r. ⌜ r ≡ getD (item (now (key .entry)) v mark) j 0 ⌝ }
+// Copies bytes to a place, and returns the place behind them.
+pub fn put_bytes(area: &mut [u8], at: usize, bytes: &[u8]) -> usize
+    requires { ⌜ at + length (now bytes) ≤ length (now area) ⌝ }
+    ensures { λ r. ⌜ (r ≡ at + length (now (bytes .entry))) × (now (area .exit) ≡ pasted (now (area .entry)) at (now (bytes .entry))) ⌝ }
 {
-    if j < key.len() {
-        return key[j];
+    let n = bytes.len();
+    let mut j = 0;
+    while j < n {
+        area[at + j] = bytes[j];
+        j += 1;
     }
-    let d = j - key.len();
+    at + n
+}
+
+// Writes a numeral at a place, and returns the place behind it.
+pub fn put_numeral(area: &mut [u8], at: usize, v: u16) -> usize
+    requires { ⌜ at + length (numeral v) ≤ length (now area) ⌝ }
+    ensures { λ r. ⌜ (r ≡ at + length (numeral v)) × (now (area .exit) ≡ pasted (now (area .entry)) at (numeral v)) ⌝ }
+{
     let w = width_of(v as u32);
-    if d < w {
-        return digit(v, w - 1 - d);
+    let mut j = 0;
+    while j < w {
+        area[at + j] = digit(v, w - 1 - j);
+        j += 1;
     }
-    mark
+    at + w
 }
 
 // Writes a number behind a key, and a mark, at a place, and returns the place behind them.
@@ -328,13 +340,10 @@ pub fn put_item(area: &mut [u8], at: usize, key: &[u8], v: u16, mark: u8) -> usi
     requires { ⌜ (at + length (item (now key) v mark) ≤ length (now area)) × (length (now key) ≤ 16) ⌝ }
     ensures { λ r. ⌜ (r ≡ at + length (item (now (key .entry)) v mark)) × (now (area .exit) ≡ pasted (now (area .entry)) at (item (now (key .entry)) v mark)) ⌝ }
 {
-    let n = line_length(key, v);
-    let mut j = 0;
-    while j < n {
-        area[at + j] = item_byte(key, v, mark, j);
-        j += 1;
-    }
-    at + n
+    let from = put_bytes(area, at, key);
+    let end = put_numeral(area, from, v);
+    area[end] = mark;
+    end + 1
 }
 
 // Writes a line at a place, and returns the place behind it.

@@ -5,7 +5,7 @@ use native.Mathlib.Omega.{arith}
 use lib.ListN.{length}
 use Rattle.text.specs.Text.{src-key, dst-key, due-key, line, rowText}
 use Rattle.text.proofs.Lengths.{row-length}
-use Rattle.text.proofs.Placing.{two-fits, three-fits, three-placed}
+use Rattle.text.proofs.Pasting.{two-fits, three-fits, three-placed}
 use borrow.Author.Needs.{needs}
 use Rattle.text.proofs.put_row.Statement.{statement}
 use Rattle.text.proofs.put_row.Tie as tie

@@ -7,7 +7,7 @@ use lib.ListN.{length}
 use Rattle.table.specs.Steps.{listed}
 use Rattle.text.specs.declared.Writing.the-variants.{Written}
 use Rattle.text.specs.Text.{nodes-key, rows-key, line, rowsText, textOf}
-use Rattle.text.proofs.Placing.{three-placed}
+use Rattle.text.proofs.Pasting.{three-placed}
 use Rattle.text.proofs.Outcomes.{many-rows, text-length, text-most, no-room, room, pasted-text}
 use borrow.Author.Needs.{needs}
 use Rattle.text.proofs.write_columns.Statement.{statement}
