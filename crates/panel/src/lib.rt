@@ -188,7 +188,7 @@ pub extern "C" fn garboardle_plan(
 pub extern "C" fn garboardle_read(text: &[u8], rows: &mut [Row]) -> ReadAnswer
     ensures { λ r. ⌜ PanelRead (now (text .entry)) (now (rows .entry)) r (now (rows .exit)) ⌝ }
 {
-    let reading = text::read(text, rows);
+    let reading = reader::read(text, rows);
     flat_reading(reading)
 }
 
@@ -197,7 +197,7 @@ pub extern "C" fn garboardle_read(text: &[u8], rows: &mut [Row]) -> ReadAnswer
 pub extern "C" fn garboardle_write(nodes: u16, rows: &[Row], area: &mut [u8]) -> WriteAnswer
     ensures { λ r. ⌜ PanelWritten nodes (now (rows .entry)) (now (area .entry)) r (now (area .exit)) ⌝ }
 {
-    let writing = text::write(nodes, rows, area);
+    let writing = writer::write(nodes, rows, area);
     flat_writing(writing)
 }
 

@@ -10,11 +10,11 @@ ghost use Rattle.report.specs.Steps.{Put, Room, Slotted};
 use lists::greatest;
 use planner::Answer;
 use planner::plan_columns;
+use reader::parse;
 use ring::Slot;
 use table::Columns;
 use table::Refusal;
 use text::Reading;
-use text::parse;
 use text::put_item;
 use text::put_line;
 

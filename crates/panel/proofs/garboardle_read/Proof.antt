@@ -1,5 +1,5 @@
--- `panel::garboardle_read` meets its contract: a walk of its MIR, by hand, straight on. `text::read` is called on a copy of the lent text and on the lent rows, and then `flat_reading`, which is covered, on its answer.
--- The rows go to `text::read` at their own lifetime, share and ghost name: the borrow is given up for good, and what `text::read` says of the last rows is what is said of them here (`Outcome.antt`).
+-- `panel::garboardle_read` meets its contract: a walk of its MIR, by hand, straight on. `reader::read` is called on a copy of the lent text and on the lent rows, and then `flat_reading`, which is covered, on its answer.
+-- The rows go to `reader::read` at their own lifetime, share and ghost name: the borrow is given up for good, and what `reader::read` says of the last rows is what is said of them here (`Outcome.antt`).
 -- Assumes nothing.
 use mathlib.Core.Path.{_≡_, refl}
 use Prim.Native.Nat.{ℕ}
@@ -43,10 +43,10 @@ use Rattle.text.specs.declared.Reading.{Reading}
 use Rattle.text.specs.Text.{TextTaken}
 use Rattle.text.proofs.Reading as S
 use Rattle.text.proofs.Reading.Laws as S′
-use Rattle.text.proofs.read as read
-use Rattle.text.proofs.read.Symbol as read-def
-use Rattle.text.proofs.read.Symbol.{name as #text·read}
-use Rattle.text.proofs.read.Met as read-thm
+use Rattle.reader.proofs.read as read
+use Rattle.reader.proofs.read.Symbol as read-def
+use Rattle.reader.proofs.read.Symbol.{name as #reader·read}
+use Rattle.reader.proofs.read.Met as read-thm
 use Rattle.panel.specs.declared.ReadAnswer.{ReadAnswer}
 use Rattle.panel.specs.Panel.{flatReading}
 use Rattle.panel.proofs.ReadAnswer as P
@@ -111,7 +111,7 @@ module _ {M : Type 1} (𝓤 : URA M) (H : Heap 𝓤) (A : Atoms 𝓤) (W : Given
   abbrev tokens : Item 𝓤
   tokens = ‵ (flft κ q) ⊛ (‵ (flft κ₁ q₁) ⊛ ‵ ftrue)
 
-  -- what `text::read` says
+  -- what `reader::read` says
   abbrev Said : Reading → List Row → Type 0
   Said r zs = TextTaken xs ys r zs
 
@@ -127,7 +127,7 @@ module _ {M : Type 1} (𝓤 : URA M) (H : Heap 𝓤) (A : Atoms 𝓤) (W : Given
       -- [text's; the rows' last list; the numbers']
       nothing ! $ move ! (2 ∷ 0 ∷ []) $ fjoin ! $ move ! (1 ∷ 0 ∷ []) $ fjoin ! $ frame ! $ done !
 
-  -- ---- `text::read`, at the lent slices' own lifetimes
+  -- ---- `reader::read`, at the lent slices' own lifetimes
   abbrev to-read : Read 𝓤 H A mem run .Ghost
   to-read = (((κ, (κ₁, tt)), (q, (q₁, tt)), tt, args, at), tt)
 
@@ -145,11 +145,11 @@ module _ {M : Type 1} (𝓤 : URA M) (H : Heap 𝓤) (A : Atoms 𝓤) (W : Given
   said-flat : (r : Reading) (s : ReadAnswer) → ent 𝓤 (ensured 𝓤 H A flat.ended (flat.clauses 𝓤 H A mem run) tt (r, tt) tt s) (fact 𝓤 (s ≡ flatReading r))
   said-flat r s = exE 𝓤 _ (λ ws. snd∗ 𝓤 (sem 𝓤 H A (lasts flat.ended tt (r, tt) ws)) (fact 𝓤 (s ≡ flatReading r)))
 
-  -- the last rows that `text::read` names, of its two parameters
+  -- the last rows that `reader::read` names, of its two parameters
   abbrev Lasts : Type 0
   Lasts = Unit {0} × (List Row × Unit {0})
 
-  module _ (C : Calls 𝓤 H) (Λ : Loops 𝓤 H) (fm : FmC 𝓤 H (W .laws) C) (known-read : Triple 𝓤 (C #text·read) (Read 𝓤 H A mem run)) (known-flat : Triple 𝓤 (C #panel·flat-reading) (Flat 𝓤 H A mem run)) where
+  module _ (C : Calls 𝓤 H) (Λ : Loops 𝓤 H) (fm : FmC 𝓤 H (W .laws) C) (known-read : Triple 𝓤 (C #reader·read) (Read 𝓤 H A mem run)) (known-flat : Triple 𝓤 (C #panel·flat-reading) (Flat 𝓤 H A mem run)) where
     walk : Room u8 (length xs) → Room R (length ys) → ent 𝓤 (onEntry 𝓤 H A export.signature (κ, (κ₁, tt)) (q, (q₁, tt)) args at) (WpFn 𝓤 H C Λ code.function (tv ∷ sv ∷ []) Post)
     walk g g₁ =
         qed W (tokens ∷ ‵ (owns (ShrSlice (named 0) κ u8 ∷ MutSlice (named 1) κ₁ R ∷ []) args at) ∷ []) ∵ enter ! C Λ code.function (tv ∷ sv ∷ []) _ $
@@ -183,7 +183,7 @@ module _ {M : Type 1} (𝓤 : URA M) (H : Heap 𝓤) (A : Atoms 𝓤) (W : Given
         free0 ! $ keep ! (1 ∷ 5 ∷ 2 ∷ 0 ∷ []) $ by ! (exits r s u (zs .1 .0) d e h)))))))))))))))))
 
 module _ {M : Type 1} (𝓤 : URA M) (H : Heap 𝓤) (A : Atoms 𝓤) (W : Given 𝓤 H A) (mem : Memory → SProp 𝓤) (run : Routine → Fun 𝓤) (𝓣 : Tables 𝓤 H)
-    (known-read : Triple 𝓤 (𝓣 .C #text·read) (Read 𝓤 H A mem run)) (known-flat : Triple 𝓤 (𝓣 .C #panel·flat-reading) (Flat 𝓤 H A mem run)) where
+    (known-read : Triple 𝓤 (𝓣 .C #reader·read) (Read 𝓤 H A mem run)) (known-flat : Triple 𝓤 (𝓣 .C #panel·flat-reading) (Flat 𝓤 H A mem run)) where
   export-walks : Walks 𝓤 H A export.ended stayed (WpFn 𝓤 H (𝓣 .C) (𝓣 .Λ) code.function) (export.clauses 𝓤 H A mem run)
   export-walks = walked 𝓤 H A export.ended stayed (export.clauses 𝓤 H A mem run) (WpFn 𝓤 H (𝓣 .C) (𝓣 .Λ) code.function) (λ κs. (slice-vals, (slice-vals, tt)))
       (λ κs. (shr-slice-tells (named 0) (κs .0) u8, (mut-slice-tells (named 1) (κs .1 .0) R, tt)))
@@ -202,5 +202,5 @@ garboardle-read-spec 𝓤 H 𝓜 𝓖 𝓡 =
     entered 𝓤 H (tripleOf 𝓤 H (𝓖 .A) export.signature (export.spec 𝓤 H (𝓖 .A) (𝓜 .mem) (𝓡 .run)))
     (tables 𝓤 H 𝓜 𝓡 code.env .C) (tables 𝓤 H 𝓜 𝓡 code.env .Λ) #panel·garboardle-read code.function (code.unfolded 𝓤 H 𝓜 𝓡)
     (export-meets 𝓤 H (𝓖 .A) (givenOf 𝓤 H 𝓜 𝓖) (𝓜 .mem) (𝓡 .run) (tablesOf 𝓤 H 𝓜 (tables 𝓤 H 𝓜 𝓡 code.env))
-    (cited 𝓤 H (Read 𝓤 H (𝓖 .A) (𝓜 .mem) (𝓡 .run)) 𝓜 𝓡 code.env #text·read read-def.routine code.calls-text·read (read-thm.met 𝓤 H 𝓜 𝓖 𝓡))
+    (cited 𝓤 H (Read 𝓤 H (𝓖 .A) (𝓜 .mem) (𝓡 .run)) 𝓜 𝓡 code.env #reader·read read-def.routine code.calls-reader·read (read-thm.met 𝓤 H 𝓜 𝓖 𝓡))
     (cited 𝓤 H (Flat 𝓤 H (𝓖 .A) (𝓜 .mem) (𝓡 .run)) 𝓜 𝓡 code.env #panel·flat-reading flat-def.routine code.calls-panel·flat-reading (flat-thm.met 𝓤 H 𝓜 𝓖 𝓡)))

@@ -1,5 +1,5 @@
--- `panel::garboardle_write` meets its contract: a walk of its MIR, by hand, straight on. `text::write` is called on a copy of the lent rows and on the lent area, and then `flat_writing`, which is covered, on its answer.
--- The area goes to `text::write` at its own lifetime, share and ghost name: the borrow is given up for good, and what `text::write` says of the last bytes is what is said of them here (`Outcome.antt`).
+-- `panel::garboardle_write` meets its contract: a walk of its MIR, by hand, straight on. `writer::write` is called on a copy of the lent rows and on the lent area, and then `flat_writing`, which is covered, on its answer.
+-- The area goes to `writer::write` at its own lifetime, share and ghost name: the borrow is given up for good, and what `writer::write` says of the last bytes is what is said of them here (`Outcome.antt`).
 -- Assumes nothing.
 use mathlib.Core.Path.{_≡_, refl}
 use Prim.Native.Nat.{ℕ, _<_, _^_}
@@ -44,10 +44,10 @@ use Rattle.text.specs.declared.Writing.{Writing}
 use Rattle.text.specs.Text.{TextPut}
 use Rattle.text.proofs.Writing as S
 use Rattle.text.proofs.Writing.Laws as S′
-use Rattle.text.proofs.write as write
-use Rattle.text.proofs.write.Symbol as write-def
-use Rattle.text.proofs.write.Symbol.{name as #text·write}
-use Rattle.text.proofs.write.Met as write-thm
+use Rattle.writer.proofs.write as write
+use Rattle.writer.proofs.write.Symbol as write-def
+use Rattle.writer.proofs.write.Symbol.{name as #writer·write}
+use Rattle.writer.proofs.write.Met as write-thm
 use Rattle.panel.specs.declared.WriteAnswer.{WriteAnswer}
 use Rattle.panel.specs.Panel.{flatWriting}
 use Rattle.panel.proofs.WriteAnswer as P
@@ -112,7 +112,7 @@ module _ {M : Type 1} (𝓤 : URA M) (H : Heap 𝓤) (A : Atoms 𝓤) (W : Given
   abbrev tokens : Item 𝓤
   tokens = ‵ (flft κ q) ⊛ (‵ (flft κ₁ q₁) ⊛ ‵ ftrue)
 
-  -- what `text::write` says
+  -- what `writer::write` says
   abbrev Said : Writing → List ℕ → Type 0
   Said r zs = TextPut k ys xs₁ r zs
 
@@ -128,7 +128,7 @@ module _ {M : Type 1} (𝓤 : URA M) (H : Heap 𝓤) (A : Atoms 𝓤) (W : Given
       -- [rows's; the area's last bytes; the numbers']
       nothing ! $ move ! (2 ∷ 0 ∷ []) $ fjoin ! $ move ! (1 ∷ 0 ∷ []) $ fjoin ! $ owned ! u16 (Is u16) (uint-makes 𝓤 H A W w16) k _ (refl, fits) $ fjoin ! $ frame ! $ done !
 
-  -- ---- `text::write`, at the lent slices' own lifetimes
+  -- ---- `writer::write`, at the lent slices' own lifetimes
   abbrev to-write : Write 𝓤 H A mem run .Ghost
   to-write = (((κ, (κ₁, tt)), (q, (q₁, tt)), tt, args, at), tt)
 
@@ -147,11 +147,11 @@ module _ {M : Type 1} (𝓤 : URA M) (H : Heap 𝓤) (A : Atoms 𝓤) (W : Given
   said-flat : (r : Writing) (s : WriteAnswer) → ent 𝓤 (ensured 𝓤 H A flat.ended (flat.clauses 𝓤 H A mem run) tt (r, tt) tt s) (fact 𝓤 (s ≡ flatWriting r))
   said-flat r s = exE 𝓤 _ (λ ws. snd∗ 𝓤 (sem 𝓤 H A (lasts flat.ended tt (r, tt) ws)) (fact 𝓤 (s ≡ flatWriting r)))
 
-  -- the last bytes that `text::write` names, of its three parameters
+  -- the last bytes that `writer::write` names, of its three parameters
   abbrev Lasts : Type 0
   Lasts = Unit {0} × (Unit {0} × (List ℕ × Unit {0}))
 
-  module _ (C : Calls 𝓤 H) (Λ : Loops 𝓤 H) (fm : FmC 𝓤 H (W .laws) C) (known-write : Triple 𝓤 (C #text·write) (Write 𝓤 H A mem run)) (known-flat : Triple 𝓤 (C #panel·flat-writing) (Flat 𝓤 H A mem run)) where
+  module _ (C : Calls 𝓤 H) (Λ : Loops 𝓤 H) (fm : FmC 𝓤 H (W .laws) C) (known-write : Triple 𝓤 (C #writer·write) (Write 𝓤 H A mem run)) (known-flat : Triple 𝓤 (C #panel·flat-writing) (Flat 𝓤 H A mem run)) where
     walk : k < 2 ^ 16 → Room R (length ys) → Room u8 (length xs₁) → ent 𝓤 (onEntry 𝓤 H A export.signature (κ, (κ₁, tt)) (q, (q₁, tt)) args at) (WpFn 𝓤 H C Λ code.function (vint w16 k ∷ sv ∷ v₁ ∷ []) Post)
     walk fits g g₁ =
         qed W (tokens ∷ ‵ (owns (u16 ∷ ShrSlice (named 0) κ R ∷ MutSlice (named 1) κ₁ u8 ∷ []) args at) ∷ []) ∵ enter ! C Λ code.function (vint w16 k ∷ sv ∷ v₁ ∷ []) _ $
@@ -185,7 +185,7 @@ module _ {M : Type 1} (𝓤 : URA M) (H : Heap 𝓤) (A : Atoms 𝓤) (W : Given
         free0 ! $ keep ! (1 ∷ 6 ∷ 2 ∷ 0 ∷ []) $ by ! (exits r s u (zs .1 .1 .0) fits d e h))))))))))))))))))
 
 module _ {M : Type 1} (𝓤 : URA M) (H : Heap 𝓤) (A : Atoms 𝓤) (W : Given 𝓤 H A) (mem : Memory → SProp 𝓤) (run : Routine → Fun 𝓤) (𝓣 : Tables 𝓤 H)
-    (known-write : Triple 𝓤 (𝓣 .C #text·write) (Write 𝓤 H A mem run)) (known-flat : Triple 𝓤 (𝓣 .C #panel·flat-writing) (Flat 𝓤 H A mem run)) where
+    (known-write : Triple 𝓤 (𝓣 .C #writer·write) (Write 𝓤 H A mem run)) (known-flat : Triple 𝓤 (𝓣 .C #panel·flat-writing) (Flat 𝓤 H A mem run)) where
   export-walks : Walks 𝓤 H A export.ended stayed (WpFn 𝓤 H (𝓣 .C) (𝓣 .Λ) code.function) (export.clauses 𝓤 H A mem run)
   export-walks = walked 𝓤 H A export.ended stayed (export.clauses 𝓤 H A mem run) (WpFn 𝓤 H (𝓣 .C) (𝓣 .Λ) code.function) (λ κs. (uint-vals w16, (slice-vals, (slice-vals, tt))))
       (λ κs. (uint-tells w16, (shr-slice-tells (named 0) (κs .0) R, (mut-slice-tells (named 1) (κs .1 .0) u8, tt))))
@@ -204,5 +204,5 @@ garboardle-write-spec 𝓤 H 𝓜 𝓖 𝓡 =
     entered 𝓤 H (tripleOf 𝓤 H (𝓖 .A) export.signature (export.spec 𝓤 H (𝓖 .A) (𝓜 .mem) (𝓡 .run)))
     (tables 𝓤 H 𝓜 𝓡 code.env .C) (tables 𝓤 H 𝓜 𝓡 code.env .Λ) #panel·garboardle-write code.function (code.unfolded 𝓤 H 𝓜 𝓡)
     (export-meets 𝓤 H (𝓖 .A) (givenOf 𝓤 H 𝓜 𝓖) (𝓜 .mem) (𝓡 .run) (tablesOf 𝓤 H 𝓜 (tables 𝓤 H 𝓜 𝓡 code.env))
-    (cited 𝓤 H (Write 𝓤 H (𝓖 .A) (𝓜 .mem) (𝓡 .run)) 𝓜 𝓡 code.env #text·write write-def.routine code.calls-text·write (write-thm.met 𝓤 H 𝓜 𝓖 𝓡))
+    (cited 𝓤 H (Write 𝓤 H (𝓖 .A) (𝓜 .mem) (𝓡 .run)) 𝓜 𝓡 code.env #writer·write write-def.routine code.calls-writer·write (write-thm.met 𝓤 H 𝓜 𝓖 𝓡))
     (cited 𝓤 H (Flat 𝓤 H (𝓖 .A) (𝓜 .mem) (𝓡 .run)) 𝓜 𝓡 code.env #panel·flat-writing flat-def.routine code.calls-panel·flat-writing (flat-thm.met 𝓤 H 𝓜 𝓖 𝓡)))

@@ -1,0 +1,8 @@
+mod Counting
+mod Seeing
+mod Rows
+mod ColumnLaws
+mod Loading
+mod Heading
+mod Parsing
+mod Lent

@@ -1,0 +1,77 @@
+-- `reader::figures_at` meets its contract: the digits passed and the digits at the rest make the whole.
+-- Assumes nothing.
+use Prim.Native.Nat.{_-_}
+use native.Mathlib.Omega.{arith}
+use borrow.Author.Needs.{needs}
+use Rattle.reader.proofs.Counting.{Read, none-read, value-fits, ended, below, above, further}
+use Rattle.reader.proofs.figures_at.Statement.{statement}
+use Rattle.reader.proofs.figures_at.Tie as tie
+
+abbrev Inv-loop : tie.InvT-loop
+Inv-loop text at most value₀ i₀ value i = Read text at value i
+
+abbrev μ-loop : tie.MeasureT-loop
+μ-loop text at most value₀ i₀ value i = 5 - i
+
+sub-lesser : tie.Need-sub-lesser Inv-loop μ-loop
+sub-lesser c = search needs
+
+lesser-requires : tie.Need-lesser-requires Inv-loop μ-loop
+lesser-requires c κs = search needs
+
+loop-holds : tie.Need-loop-holds Inv-loop μ-loop
+loop-holds c = none-read _ _ (search needs)
+
+add-b : tie.Need-add-b Inv-loop μ-loop
+add-b c = search needs
+
+shared-slice-read-b : tie.Need-shared-slice-read-b Inv-loop μ-loop
+shared-slice-read-b c = omega (arith, c .before .before .before .lesser .ensures)
+
+returns : tie.Need-returns Inv-loop μ-loop
+returns c = below (c .before .before .before .loop .inv) (omega (arith, c .before .before .before .before .lesser .ensures)) (omega (arith, c .before .before .before .before .lesser .ensures)) (c .if1 .taken)
+
+returns-2 : tie.Need-returns-2 Inv-loop μ-loop
+returns-2 c = above (c .before .before .before .before .loop .inv) (omega (arith, c .before .before .before .before .before .lesser .ensures)) (omega (arith, c .before .before .before .before .before .lesser .ensures)) (c .if2 .taken)
+
+mul-value : tie.Need-mul-value Inv-loop μ-loop
+mul-value c = omega (arith, value-fits (c .before .before .before .before .loop .inv) (omega (arith, c .before .before .before .before .before .lesser .ensures)))
+
+cast-value : tie.Need-cast-value Inv-loop μ-loop
+cast-value c = search needs
+
+add-value : tie.Need-add-value Inv-loop μ-loop
+add-value c = omega (arith, value-fits (c .before .before .before .before .loop .inv) (omega (arith, c .before .before .before .before .before .lesser .ensures)))
+
+add-i : tie.Need-add-i Inv-loop μ-loop
+add-i c = search needs
+
+loop-less : tie.Need-loop-less Inv-loop μ-loop
+loop-less c = omega (arith, c .before .before .before .before .before .lesser .ensures)
+
+loop-again : tie.Need-loop-again Inv-loop μ-loop
+loop-again c = further (c .before .before .before .before .loop .inv) (omega (arith, c .before .before .before .before .before .lesser .ensures)) (omega (arith, c .before .before .before .before .before .lesser .ensures)) (search needs) (search needs)
+
+returns-3 : tie.Need-returns-3 Inv-loop μ-loop
+returns-3 c = ended (c .before .loop .inv) (omega (arith, c .before .before .lesser .ensures))
+
+pub figures-at-spec : {M : Type 1} → statement M
+figures-at-spec =
+    tie.close
+    (tie.spec
+    Inv-loop
+    μ-loop
+    sub-lesser
+    lesser-requires
+    loop-holds
+    add-b
+    shared-slice-read-b
+    returns
+    returns-2
+    mul-value
+    cast-value
+    add-value
+    add-i
+    loop-less
+    loop-again
+    returns-3)

@@ -1,0 +1,115 @@
+-- `reader::line_at` meets its contract: each return is one law of a line.
+-- Assumes nothing.
+use mathlib.Core.Path.{_∙_, sym}
+use native.Mathlib.Omega.{arith}
+use borrow.Author.Tests.{not-true, not-false}
+use Rattle.reader.proofs.Seeing.{no-key, key-inside, figures-inside, seen-great, seen-other, seen-no-end, seen-other-end, seen-good}
+use borrow.Author.Needs.{needs}
+use Rattle.reader.proofs.line_at.Statement.{statement}
+use Rattle.reader.proofs.line_at.Tie as tie
+
+key-at-requires : tie.Need-key-at-requires
+key-at-requires c κs = search needs
+
+returns : tie.Need-returns
+returns c =
+    let key = c .before .before .before .before .args .key .now in
+    let text = c .before .before .before .before .args .text .now in
+    let at = c .before .before .before .before .args .at in
+    no-key key text at (sym (c .before .key-at .ensures) ∙ not-true _ (c .if1 .taken))
+
+add-from : tie.Need-add-from
+add-from c = search needs
+
+figures-at-requires : tie.Need-figures-at-requires
+figures-at-requires c κs =
+    let key = c .before .before .before .before .args .key .now in
+    let text = c .before .before .before .before .args .text .now in
+    let at = c .before .before .before .before .args .at in
+    let stands = sym (c .before .key-at .ensures) ∙ not-false _ (c .if1 .left) in
+    key-inside key text at (c .before .before .before .before .pre) stands
+
+returns-2 : tie.Need-returns-2
+returns-2 c =
+    let key = c .before .before .before .before .before .before .before .args .key .now in
+    let text = c .before .before .before .before .before .before .before .args .text .now in
+    let at = c .before .before .before .before .before .before .before .args .at in
+    let f = c .before .before .figures-at in
+    seen-great key text at (f .result) (f .ensures) (c .if2 .taken)
+
+width-of-requires : tie.Need-width-of-requires
+width-of-requires c κs = search needs
+
+returns-3 : tie.Need-returns-3
+returns-3 c =
+    let key = c .before .before .before .before .before .before .before .before .before .before .args .key .now in
+    let text = c .before .before .before .before .before .before .before .before .before .before .args .text .now in
+    let at = c .before .before .before .before .before .before .before .before .before .before .args .at in
+    let f = c .before .before .before .before .before .figures-at in
+    let w = c .before .before .width-of in
+    seen-other key text at (f .result) (f .ensures) (w .result) (w .ensures) (c .if3 .taken)
+
+add-end : tie.Need-add-end
+add-end c =
+    let key = c .before .before .before .before .before .before .before .before .before .before .before .args .key .now in
+    let text = c .before .before .before .before .before .before .before .before .before .before .before .args .text .now in
+    let at = c .before .before .before .before .before .before .before .before .before .before .before .args .at in
+    let f = c .before .before .before .before .before .before .figures-at in
+    let stands = sym (c .before .before .before .before .before .before .before .before .key-at .ensures) ∙ not-false _ (c .before .before .before .before .before .before .before .if1 .left) in
+    omega (arith, figures-inside key text at (f .result) (f .ensures) (key-inside key text at (c .before .before .before .before .before .before .before .before .before .before .before .pre) stands))
+
+returns-4 : tie.Need-returns-4
+returns-4 c =
+    let key = c .before .before .before .before .before .before .before .before .before .before .before .before .args .key .now in
+    let text = c .before .before .before .before .before .before .before .before .before .before .before .before .args .text .now in
+    let at = c .before .before .before .before .before .before .before .before .before .before .before .before .args .at in
+    let f = c .before .before .before .before .before .before .before .figures-at in
+    let w = c .before .before .before .before .width-of in
+    seen-no-end key text at (f .result) (f .ensures) (w .result) (w .ensures) (c .before .before .if3 .left) (c .if4 .taken)
+
+shared-slice-read-if5 : tie.Need-shared-slice-read-if5
+shared-slice-read-if5 c = search needs
+
+returns-5 : tie.Need-returns-5
+returns-5 c =
+    let key = c .before .before .before .before .before .before .before .before .before .before .before .before .before .before .args .key .now in
+    let text = c .before .before .before .before .before .before .before .before .before .before .before .before .before .before .args .text .now in
+    let at = c .before .before .before .before .before .before .before .before .before .before .before .before .before .before .args .at in
+    let f = c .before .before .before .before .before .before .before .before .before .figures-at in
+    let w = c .before .before .before .before .before .before .width-of in
+    seen-other-end key text at (f .result) (f .ensures) (w .result) (w .ensures) (c .before .before .before .before .if3 .left) (c .before .before .if4 .left) (c .if5 .taken)
+
+cast-t12 : tie.Need-cast-t12
+cast-t12 c = search needs
+
+add-t9 : tie.Need-add-t9
+add-t9 c = search needs
+
+returns-6 : tie.Need-returns-6
+returns-6 c =
+    let key = c .before .before .before .before .before .before .before .before .before .before .before .before .before .before .before .args .key .now in
+    let text = c .before .before .before .before .before .before .before .before .before .before .before .before .before .before .before .args .text .now in
+    let at = c .before .before .before .before .before .before .before .before .before .before .before .before .before .before .before .args .at in
+    let f = c .before .before .before .before .before .before .before .before .before .before .figures-at in
+    let w = c .before .before .before .before .before .before .before .width-of in
+    let stands = sym (c .before .before .before .before .before .before .before .before .before .before .before .before .key-at .ensures) ∙ not-false _ (c .before .before .before .before .before .before .before .before .before .before .before .if1 .left) in
+    seen-good key text at (f .result) (f .ensures) (w .result) (w .ensures) (c .before .before .before .before .before .if3 .left) (c .before .before .before .if4 .left) stands (c .before .before .before .before .before .before .before .before .if2 .left) (c .before .if5 .left)
+
+pub line-at-spec : {M : Type 1} → statement M
+line-at-spec =
+    tie.close
+    (tie.spec
+    key-at-requires
+    returns
+    add-from
+    figures-at-requires
+    returns-2
+    width-of-requires
+    returns-3
+    add-end
+    returns-4
+    shared-slice-read-if5
+    returns-5
+    cast-t12
+    add-t9
+    returns-6)

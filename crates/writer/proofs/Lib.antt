@@ -1,0 +1,4 @@
+mod Listed
+mod Placing
+mod Outcomes
+mod Lent

@@ -1,0 +1,115 @@
+ghost use mathlib.Core.Path.{_≡_};
+ghost use Prim.Native.Nat.{_+_, _≤_};
+ghost use lib.ListN.{length};
+ghost use Rattle.table.specs.Steps.{listed};
+ghost use Rattle.text.specs.Text.{line, rowText, rowsText, writingOf, areaAfter, TextPut};
+ghost use Rattle.text.specs.Steps.{pasted, held};
+use table::Columns;
+use table::Row;
+use table::load;
+use text::Writing;
+use text::not_written;
+use text::put_line;
+use text::width_of;
+
+// The length of a line.
+fn line_length(key: &[u8], v: u16) -> usize
+    requires { ⌜ length (now key) ≤ 16 ⌝ }
+    ensures { λ r. ⌜ r ≡ length (line (now (key .entry)) v) ⌝ }
+{
+    key.len() + width_of(v as u32) + 1
+}
+
+// The length of a row's three lines.
+fn row_length(row: Row) -> usize
+    ensures { λ r. ⌜ r ≡ length (rowText row) ⌝ }
+{
+    line_length(b"src=", row.src) + line_length(b"dst=", row.dst) + line_length(b"due=", row.due)
+}
+
+// Writes a row's three lines at a place, and returns the place behind them.
+fn put_row(area: &mut [u8], at: usize, row: Row) -> usize
+    requires { ⌜ at + length (rowText row) ≤ length (now area) ⌝ }
+    ensures { λ r. ⌜ (r ≡ at + length (rowText row)) × (now (area .exit) ≡ pasted (now (area .entry)) at (rowText row)) ⌝ }
+{
+    let second = put_line(area, at, b"src=", row.src);
+    let third = put_line(area, second, b"dst=", row.dst);
+    put_line(area, third, b"due=", row.due)
+}
+
+// The length of the lines of so many rows.
+fn rows_length(rows: usize, src: &[u16; 512], dst: &[u16; 512], due: &[u16; 512]) -> usize
+    requires { ⌜ rows ≤ 512 ⌝ }
+    ensures { λ r. ⌜ r ≡ length (rowsText (listed rows (held (now (src .entry)) (now (dst .entry)) (now (due .entry))))) ⌝ }
+{
+    let mut sum = 0;
+    let mut i = 0;
+    while i < rows {
+        sum += row_length(Row {
+            src: src[i],
+            dst: dst[i],
+            due: due[i],
+        });
+        i += 1;
+    }
+    sum
+}
+
+// Writes the lines of so many rows at a place.
+fn put_rows(
+    area: &mut [u8],
+    from: usize,
+    rows: usize,
+    src: &[u16; 512],
+    dst: &[u16; 512],
+    due: &[u16; 512],
+)
+    requires { ⌜ (rows ≤ 512) × (from + length (rowsText (listed rows (held (now src) (now dst) (now due)))) ≤ length (now area)) ⌝ }
+    ensures { λ _. ⌜ now (area .exit) ≡ pasted (now (area .entry)) from (rowsText (listed rows (held (now (src .entry)) (now (dst .entry)) (now (due .entry))))) ⌝ }
+{
+    let mut at = from;
+    let mut i = 0;
+    while i < rows {
+        at = put_row(
+            area,
+            at,
+            Row {
+                src: src[i],
+                dst: dst[i],
+                due: due[i],
+            },
+        );
+        i += 1;
+    }
+}
+
+// Writes the text of a table, its rows given by columns, into an area that is long enough.
+pub fn write_columns(nodes: u16, rows: usize, columns: Columns, area: &mut [u8]) -> Writing
+    ensures { λ r. ⌜ (r ≡ writingOf nodes (listed rows columns) (length (now (area .entry)))) × (now (area .exit) ≡ areaAfter nodes (listed rows columns) (now (area .entry))) ⌝ }
+{
+    if 512 < rows {
+        return not_written(2);
+    }
+    let src = columns.src;
+    let dst = columns.dst;
+    let due = columns.due;
+    let count = rows as u16;
+    let head = line_length(b"nodes=", nodes) + line_length(b"rows=", count);
+    let length = head + rows_length(rows, &src, &dst, &due);
+    if area.len() < length {
+        return not_written(22);
+    }
+    let second = put_line(area, 0, b"nodes=", nodes);
+    let third = put_line(area, second, b"rows=", count);
+    put_rows(area, third, rows, &src, &dst, &due);
+    Writing::Written(length)
+}
+
+// Writes the text of a table of lent rows into an area that is long enough.
+pub fn write(nodes: u16, rows: &[Row], area: &mut [u8]) -> Writing
+    ensures { λ r. ⌜ TextPut nodes (now (rows .entry)) (now (area .entry)) r (now (area .exit)) ⌝ }
+{
+    let count = rows.len();
+    let columns = load(rows);
+    write_columns(nodes, count, columns, area)
+}
