@@ -1,5 +1,6 @@
 /* Plans a slotted ring: which message each link carries in each slot, so that every message is in time; reads and writes
-   its table as text; edits a table row by row. Link with libpanel.a (docs/PANEL.md says how to build it). */
+   its table as text; edits a table row by row; says an answer in the words of a catalogue. Link with libpanel.a
+   (docs/PANEL.md says how to build it). */
 #ifndef GARBOARDLE_H
 #define GARBOARDLE_H
 
@@ -19,6 +20,11 @@ extern "C" {
 #define GARBOARDLE_MOST_ENTRIES (GARBOARDLE_MOST_NODES * GARBOARDLE_LATEST_DUE)
 #define GARBOARDLE_MOST_ARRIVALS GARBOARDLE_MOST_ROWS
 #define GARBOARDLE_LONGEST_TEXT 15381
+
+/* Areas of these lengths are long enough for every sentence, which is a string, a space, a row, a space and a slot, and for
+   every label. */
+#define GARBOARDLE_LONGEST_SENTENCE (96 + 1 + 5 + 1 + 5)
+#define GARBOARDLE_LONGEST_LABEL 96
 
 /* One message: from node src to node dst, there at instant due or before. Rows are numbered from 1, in list order. */
 struct garboardle_row {
@@ -135,7 +141,8 @@ struct garboardle_table {
    3 to 6 are about the row that is given: to adding, under its coming number, or to changing, under the number asked for.
    An area of zeros that was never opened gives 1. */
 
-/* The answer of opening and editing. Done: all three are 0. Refused: number says why, row says where, and slot is 0. */
+/* The answer of opening and editing, and of judging a catalogue. Done: all three are 0. Refused: number says why, row says
+   where, and slot is 0. */
 struct garboardle_edit_answer {
     uint16_t number;
     uint16_t row;
@@ -195,6 +202,47 @@ struct garboardle_link garboardle_busiest(const struct garboardle_table *table);
    which is only read. */
 struct garboardle_answer garboardle_plan_table(const struct garboardle_table *table, uint16_t *plan, size_t plan_len,
                                                uint16_t *arrivals, size_t arrivals_len);
+
+/* A catalogue has the words of one language, as text of 24 lines in this order: r0 for acceptance; r1 to r9, r12, r20 to
+   r22 and r30 to r33 for the refusals of these numbers; f1 to f6 for the labels of nodes, source, destination, due slot,
+   span and range. Each line is the key, an equals sign, a string of 1 to 96 bytes with no line feed among them, and one
+   line feed. Nothing follows the last line, and no two labels are equal.
+
+   number  given when                                                              row
+   30      a line is wrong, missing or not ended, or bytes follow the last (25)    line
+   31      the key is right, but the string is empty or longer than 96 bytes       line
+   32      a label equals an earlier one                                           line, the first that repeats
+   33      the number asked for has no sentence, or the field no label             0
+   22      lent area too short                                                     0
+
+   The lines are judged in order, numbered from 1, and the first that is wrong decides; then 32, 33 and 22 follow. Nothing
+   asks which bytes a string holds: a carriage return before the line feed is its last byte. */
+
+/* The answer of writing a sentence or a label. Written: number and row are 0, and length says how many bytes were. Refused:
+   number says why, row says where, and length is 0. slot is always 0. */
+struct garboardle_sentence_answer {
+    uint16_t number;
+    uint16_t row;
+    uint16_t slot;
+    size_t length;
+};
+
+/* In all three functions below the caller lends catalogue and area for the call, and nothing is kept of them after it:
+   catalogue is read; area is written. Neither is null, not even with length 0, and they do not overlap. A refusal leaves the
+   area as it was, and no byte past those written is touched. No NUL is written behind them. */
+
+/* What a catalogue comes to: 0 where it is accepted, else 30, 31 or 32. */
+struct garboardle_edit_answer garboardle_catalogue(const uint8_t *catalogue, size_t catalogue_len);
+
+/* Writes the sentence of an answer: the string of its number, a space, the row, a space and the slot, both as numerals with
+   no leading zero. The sentence of number 0 ends in 0 and 0, whatever row and slot are passed. The line of a refused text
+   passes as the row. */
+struct garboardle_sentence_answer garboardle_sentence(const uint8_t *catalogue, size_t catalogue_len, uint16_t number,
+                                                      uint16_t row, uint16_t slot, uint8_t *area, size_t area_len);
+
+/* Writes the label of a field, 1 to 6. */
+struct garboardle_sentence_answer garboardle_label(const uint8_t *catalogue, size_t catalogue_len, uint16_t field,
+                                                   uint8_t *area, size_t area_len);
 
 #ifdef __cplusplus
 }

@@ -9,6 +9,7 @@ awk '/^```sh$/ { on = 1; next } /^```/ { on = 0 } on' README.md | grep -v '^\.ci
     *) bash -euo pipefail -c "$line" > target/readme.out ;;
     esac
     case "$line" in
+    *target/sentence*) grep -qxF "$(tail -n 1 target/readme.out)" README.md ;;
     *"target/bin/plan <"*) awk '/^```$/ { n++; next } n == 5 && /=/' README.md | diff - <(tail -n 9 target/readme.out) ;;
     esac
 done

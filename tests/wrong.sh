@@ -1,11 +1,13 @@
 #!/usr/bin/env bash
 # wrong.sh [FIRST [LAST]]: holds the tests themselves to account: functions in C pass them, and each of their faulty kin is
-# turned away. Up to 28 it is the planner that is faulty, from 29 on the reader or the writer, from 57 on what edits a table.
+# turned away. Up to 28 it is the planner that is faulty, from 29 on the reader or the writer, from 57 on what edits a table,
+# from 128 on what judges a catalogue or writes of it.
 set -euo pipefail
 cd "$(dirname "$0")/.."
 planners=28
 texts=56
-most=127
+edits=127
+most=218
 export CARGO_TARGET_DIR=$PWD/tests/target/wrong
 mkdir -p "$CARGO_TARGET_DIR"
 failed=0
@@ -13,18 +15,20 @@ for k in $(seq "${1:-0}" "${2:-$most}"); do
     lib=$CARGO_TARGET_DIR/lib
     mkdir -p "$lib"
     rm -f "$lib/libpanel.a"
-    for part in planner text edit; do
+    for part in planner text edit catalogue; do
         gcc -std=c99 -O2 -Wall -Wextra -Werror -Iinclude -DWRONG="$k" -c tests/wrong/$part.c -o "$lib/$part.o"
         ar rcs "$lib/libpanel.a" "$lib/$part.o"
     done
     if [ "$k" -eq 0 ]; then
-        tests="--test guarded --test worked --test refused --test small --test large --test text --test edit"
+        tests="--test guarded --test worked --test refused --test small --test large --test text --test edit --test catalogue"
     elif [ "$k" -le "$planners" ]; then
         tests="--test guarded --test worked --test refused --test small --test large --test text"
     elif [ "$k" -le "$texts" ]; then
         tests="--test guarded --test text"
-    else
+    elif [ "$k" -le "$edits" ]; then
         tests="--test edit --test guarded"
+    else
+        tests="--test catalogue --test guarded"
     fi
     status=0
     PANEL_LIB=$lib timeout 300 cargo test --release --offline --locked --manifest-path tests/Cargo.toml \

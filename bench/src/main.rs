@@ -1,8 +1,10 @@
-//! Times the archive's planner beside Rust planners that scan all rows in each slot, on the same random full tables.
+//! Times the archive's planner beside Rust planners that scan all rows in each slot, on the same random full tables, and a
+//! sentence of the longest catalogue beside the tests' model.
 
 mod scan;
 
-use panel_tests::panel::{self, Answer, Row};
+use panel_tests::catalogue;
+use panel_tests::panel::{self, Answer, Row, SentenceAnswer};
 use panel_tests::random::Random;
 use std::hint::black_box;
 use std::time::Instant;
@@ -11,6 +13,7 @@ const NODES: u16 = 32;
 const ROWS: usize = 512;
 const TABLES: usize = 100;
 const ROUNDS: usize = 21;
+const SENTENCES: usize = 2001;
 const ENTRIES: usize = NODES as usize * 1024;
 
 /// Scans all rows in each slot, with branches.
@@ -121,6 +124,33 @@ fn compare(name: &str, tables: &[Vec<Row>], instants: Vec<u16>) {
     println!("  ours {ours:.1} us; scan with branches {scan:.1} us, ratio {:.2}; scan without {least:.1} us, ratio {:.2}", ours / scan, ours / least);
 }
 
+type Speaker = fn(&[u8], u16, u16, u16, &mut [u8]) -> SentenceAnswer;
+
+/// A sentence of the longest catalogue, whose labels differ in their last byte alone: judged for each, beside the tests' model.
+fn compare_sentences() {
+    let strings: Vec<Vec<u8>> = (0..catalogue::LINES)
+        .map(|k| [vec![b'x'; catalogue::LONGEST - 1], vec![b'A' + k as u8]].concat())
+        .collect();
+    let text = catalogue::text(&strings);
+    let mut times = [Vec::new(), Vec::new()];
+    for round in 0..SENTENCES {
+        for k in (0..2).map(|k| (k + round) % 2) {
+            let speaker = [panel::sentence as Speaker, catalogue::sentence][k];
+            let mut area = [0xab; 108];
+            let start = Instant::now();
+            let answer = speaker(black_box(&text), 33, 65535, 65535, black_box(&mut area));
+            times[k].push(start.elapsed().as_secs_f64() * 1e6);
+            assert!(answer.number == 0 && answer.length == 108);
+        }
+    }
+    let [ours, model] = times.map(median);
+    println!(
+        "a sentence of a catalogue of {} bytes, {SENTENCES} calls: ours {ours:.1} us; the model {model:.1} us, ratio {:.2}",
+        text.len(),
+        ours / model
+    );
+}
+
 fn main() {
     let mut random = Random::new(14);
     println!("{ROWS} rows, {NODES} nodes; areas filled with a pattern, not cleared, before each call; medians over all calls");
@@ -128,4 +158,5 @@ fn main() {
     compare("not late", &loose, instants);
     let (late, instants) = tables(&mut random, 0, 300, 9);
     compare("late", &late, instants);
+    compare_sentences();
 }

@@ -2,6 +2,8 @@
 
 pub mod area;
 pub mod cases;
+pub mod catalogue;
+pub mod catalogues;
 pub mod checker;
 pub mod compare;
 pub mod desk;

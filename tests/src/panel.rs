@@ -92,6 +92,15 @@ pub struct Link {
     pub load: u16,
 }
 
+#[repr(C)]
+#[derive(Clone, Copy, Debug, Default, PartialEq, Eq)]
+pub struct SentenceAnswer {
+    pub number: u16,
+    pub row: u16,
+    pub slot: u16,
+    pub length: usize,
+}
+
 extern "C" {
     pub fn garboardle_plan(
         nodes: u16,
@@ -134,6 +143,26 @@ extern "C" {
         arrivals: *mut u16,
         arrivals_len: usize,
     ) -> Answer;
+
+    pub fn garboardle_catalogue(catalogue: *const u8, catalogue_len: usize) -> EditAnswer;
+
+    pub fn garboardle_sentence(
+        catalogue: *const u8,
+        catalogue_len: usize,
+        number: u16,
+        row: u16,
+        slot: u16,
+        area: *mut u8,
+        area_len: usize,
+    ) -> SentenceAnswer;
+
+    pub fn garboardle_label(
+        catalogue: *const u8,
+        catalogue_len: usize,
+        field: u16,
+        area: *mut u8,
+        area_len: usize,
+    ) -> SentenceAnswer;
 }
 
 pub fn plan(nodes: u16, rows: &[Row], plan: &mut [u16], arrivals: &mut [u16]) -> Answer {
@@ -212,6 +241,44 @@ pub fn plan_table(table: &Table, plan: &mut [u16], arrivals: &mut [u16]) -> Answ
             plan.len(),
             arrivals.as_mut_ptr(),
             arrivals.len(),
+        )
+    }
+}
+
+// Safe, all that follow: each function asks nothing but slices that do not overlap, and borrows them for the call alone.
+
+pub fn catalogue(catalogue: &[u8]) -> EditAnswer {
+    unsafe { garboardle_catalogue(catalogue.as_ptr(), catalogue.len()) }
+}
+
+pub fn sentence(
+    catalogue: &[u8],
+    number: u16,
+    row: u16,
+    slot: u16,
+    area: &mut [u8],
+) -> SentenceAnswer {
+    unsafe {
+        garboardle_sentence(
+            catalogue.as_ptr(),
+            catalogue.len(),
+            number,
+            row,
+            slot,
+            area.as_mut_ptr(),
+            area.len(),
+        )
+    }
+}
+
+pub fn label(catalogue: &[u8], field: u16, area: &mut [u8]) -> SentenceAnswer {
+    unsafe {
+        garboardle_label(
+            catalogue.as_ptr(),
+            catalogue.len(),
+            field,
+            area.as_mut_ptr(),
+            area.len(),
         )
     }
 }

@@ -170,7 +170,7 @@ pub fn there_and_back(random: &mut Random) -> Result<&'static str, String> {
 }
 
 /// A fault of some kind in a text.
-fn harm(random: &mut Random, bytes: &mut Vec<u8>) {
+pub fn harm(random: &mut Random, bytes: &mut Vec<u8>) {
     let telling = b"0123456789=\n\r +-.,\0\xffndxsrcoueqt";
     let byte = telling[random.within(0, telling.len() - 1)];
     let at = random.within(0, bytes.len());

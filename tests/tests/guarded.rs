@@ -3,6 +3,8 @@
 
 use panel_tests::area::Area;
 use panel_tests::cases::{each, large_table, Dues, UNDER_TEST};
+use panel_tests::catalogue;
+use panel_tests::catalogues::{any_asked, any_catalogue, any_room};
 use panel_tests::desk::hold_shown;
 use panel_tests::edits::{any_area, edit_of};
 use panel_tests::model;
@@ -217,6 +219,29 @@ fn guarded_editing(random: &mut Random) -> Result<&'static str, String> {
     })
 }
 
+fn guarded_catalogue(random: &mut Random) -> Result<&'static str, String> {
+    let text = any_catalogue(random);
+    let asked = any_asked(random);
+    let room = any_room(random, &text, asked);
+    let mut area = random.bytes(room);
+    let mut lent_text = Guarded::new(&text, random.once_in(2));
+    let mut lent_area = Guarded::new(&area, random.once_in(2));
+    let verdict = panel::catalogue(lent_text.entries());
+    let answer = asked.call(lent_text.entries(), lent_area.entries());
+    let expected = asked.model(&text, &mut area);
+    if verdict != catalogue::judge(&text) || answer != expected {
+        return Err(format!("{asked:?}: {answer:?}, and the model {expected:?}"));
+    }
+    if lent_area.entries() != area || lent_text.entries() != text {
+        return Err(format!("{asked:?}: another area, or another catalogue"));
+    }
+    Ok(if answer.number == 0 {
+        "written"
+    } else {
+        "not written"
+    })
+}
+
 /// A touch of a guarded page: says which table it was, and ends the process.
 extern "C" fn touched(_: i32) {
     let mut line = [0; 160];
@@ -237,4 +262,5 @@ fn nothing_past_the_lent_lists() {
     each("guarded", guarded_reading, 6_000_000, 3_000);
     each("guarded", guarded_writing, 7_000_000, 3_000);
     each("guarded", guarded_editing, 8_300_000, 4_000);
+    each("guarded", guarded_catalogue, 9_100_000, 4_000);
 }

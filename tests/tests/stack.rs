@@ -2,13 +2,15 @@
 #![cfg(target_arch = "x86_64")]
 
 use panel_tests::cases::{large_table, Dues};
+use panel_tests::catalogues::{any_asked, any_catalogue, any_room, Asked};
 use panel_tests::edit::{Edit, Entered};
 use panel_tests::edits::{any_area, edit_of};
 use panel_tests::panel::{
-    self, garboardle_add, garboardle_busiest, garboardle_change, garboardle_link_load,
-    garboardle_open, garboardle_plan, garboardle_plan_table, garboardle_read, garboardle_remove,
-    garboardle_row_count, garboardle_row_of, garboardle_write, Answer, ReadAnswer, Row, Table,
-    WriteAnswer,
+    self, garboardle_add, garboardle_busiest, garboardle_catalogue, garboardle_change,
+    garboardle_label, garboardle_link_load, garboardle_open, garboardle_plan,
+    garboardle_plan_table, garboardle_read, garboardle_remove, garboardle_row_count,
+    garboardle_row_of, garboardle_sentence, garboardle_write, Answer, ReadAnswer, Row,
+    SentenceAnswer, Table, WriteAnswer,
 };
 use panel_tests::random::Random;
 use panel_tests::texts::{any_table, any_text};
@@ -71,8 +73,14 @@ fn used(
 
 /// Calls a function that takes at most six words on a stack of its own: how many bytes it used, and the two words that it answers in.
 fn used_by(function: *const (), words: [u64; 6], paint: u64) -> (usize, [u64; 2]) {
+    used_with(function, words, paint, paint)
+}
+
+/// The same, with a seventh word, which goes by the stack and is not counted.
+fn used_with(function: *const (), words: [u64; 6], last: u64, paint: u64) -> (usize, [u64; 2]) {
     let (mut stack, top) = painted(paint);
     let mut answer = [0; 2];
+    stack[top] = last;
     unsafe {
         std::arch::asm!(
             "xchg rsp, r12",
@@ -303,4 +311,64 @@ fn planning_an_edited_table_too() {
     println!("stack: {deepest} bytes at the deepest for planning an edited table; calls by answer: {tables:?}");
     assert!(tables[0] > 0 && tables[9] > 0);
     assert!(deepest <= LIMIT);
+}
+
+/// Asks for a sentence or a label; the sentence's last argument, on the stack, counts too.
+fn used_by_asked(
+    asked: Asked,
+    text: &[u8],
+    area: &mut [u8],
+    paint: u64,
+) -> (usize, SentenceAnswer) {
+    let (lent, room) = (area.as_mut_ptr() as u64, area.len() as u64);
+    let (at, length) = (text.as_ptr() as u64, text.len() as u64);
+    let one = |number| word(&[number], paint);
+    let (bytes, answer) = match asked {
+        Asked::Sentence { number, row, slot } => {
+            let words = [at, length, one(number), one(row), one(slot), lent];
+            let (bytes, answer) = used_with(garboardle_sentence as _, words, room, paint);
+            (bytes + 8, answer)
+        }
+        Asked::Label { field } => {
+            let words = [at, length, one(field), lent, room, 0];
+            used_by(garboardle_label as _, words, paint)
+        }
+    };
+    let [number, row, slot] = numbers(answer);
+    let length = answer[1] as usize;
+    let answer = SentenceAnswer {
+        number,
+        row,
+        slot,
+        length,
+    };
+    (bytes, answer)
+}
+
+#[test]
+fn catalogues_too() {
+    let mut random = Random::new(26);
+    let (mut judging, mut asking, mut written) = (0, 0, 0);
+    for _ in 0..400 {
+        let text = any_catalogue(&mut random);
+        let asked = any_asked(&mut random);
+        let room = any_room(&mut random, &text, asked);
+        let before = random.bytes(room);
+        for paint in PAINTS {
+            let words = [text.as_ptr() as u64, text.len() as u64, 0, 0, 0, 0];
+            let (bytes, answer) = used_by(garboardle_catalogue as _, words, paint);
+            let a = panel::catalogue(&text);
+            assert_eq!(numbers(answer), [a.number, a.row, a.slot]);
+            judging = bytes.max(judging);
+            let (mut area, mut plainly) = (before.clone(), before.clone());
+            let (bytes, answer) = used_by_asked(asked, &text, &mut area, paint);
+            assert_eq!(answer, asked.call(&text, &mut plainly));
+            assert_eq!(area, plainly);
+            written += usize::from(answer.number == 0);
+            asking = bytes.max(asking);
+        }
+    }
+    println!("stack: {judging} bytes at the deepest for judging a catalogue, {asking} for a sentence or a label; written: {written}");
+    assert!(written > 0);
+    assert!(judging.max(asking) <= LIMIT);
 }

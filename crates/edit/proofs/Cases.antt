@@ -5,14 +5,14 @@ use mathlib.Core.Path.{_≡_, refl}
 use Prim.Native.Nat.{ℕ}
 use mathlib.Core.List.{List, [], _∷_, map}
 use lib.ListN.{replicate}
-use Rattle.lists.specs.Lists.{largest}
+use Rattle.lists.specs.Lists.{largest, firstPlace}
 use Rattle.table.specs.declared.Row.{Row}
 use Rattle.table.specs.declared.Verdict.{Verdict}
 use Rattle.table.specs.declared.Verdict.the-variants.{Good, Refused}
 use Rattle.table.specs.Table.{refuse, rowRefusal}
 use Rattle.edit.specs.declared.Entry.the-variants as entry
 use Rattle.edit.specs.declared.LinkLoad.{LinkLoad}
-use Rattle.edit.specs.Edit.{crosses, load, numbers, laid, areaOf, loadIn, rowIn, rowsIn, Edit, Add, Change, Remove, firstOf, sizeRefusal, numberRefusal, refusalOf, editRefusal, aboutRow, rowNamed, verdictBy, rowsAfter, stepBy, stepFor, loadAfter, behindAfter, edited, areaAfter, entryOf, loadsIn, firstPlace, busiestIn}
+use Rattle.edit.specs.Edit.{crosses, load, numbers, laid, areaOf, loadIn, rowIn, rowsIn, Edit, Add, Change, Remove, firstOf, sizeRefusal, numberRefusal, refusalOf, editRefusal, aboutRow, rowNamed, verdictBy, rowsAfter, stepBy, stepFor, loadAfter, behindAfter, edited, areaAfter, entryOf, loadsIn, busiestIn}
 
 -- A row by source, destination and due slot; a refusal of an edit; a link and its load.
 row : (src dst due : ℕ) → Row

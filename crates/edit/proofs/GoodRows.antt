@@ -1,6 +1,5 @@
 -- Lists of rows of which none is bad, and what that has to do with a well-formed table.
 --     AllGood                          no row of the list is bad
---     never-good                       a refusal is not the verdict `Good`
 --     good-row                         what a row is that isn't bad
 --     good-append, good-split          two such lists in one, and the two parts of one
 --     well-formed, all-good            a table within its sizes is well-formed exactly if it has no bad row
@@ -14,20 +13,15 @@ use borrow.Author.Tests.{eqb-true}
 use lib.Dec.{eqb, ltb}
 use lib.ListN.{length, take, drop, take-append-drop}
 use Rattle.table.specs.declared.Row.{Row}
-use Rattle.table.specs.declared.Refusal.{Refusal}
 use Rattle.table.specs.declared.Verdict.the-variants.{Good, Refused}
 use Rattle.table.specs.Table.{most-rows, refuse, rowRefusal, judgeRows, judge, WellFormed}
-use Rattle.table.proofs.Judging.{GoodRow, good-rows}
+use Rattle.table.proofs.Judging.{GoodRow, good-rows, never-good}
 use Rattle.edit.specs.Edit.{most-links, sizeRefusal}
 
 -- No row of the list is bad.
 unfoldable pub AllGood : ℕ → List Row → Type 0
 AllGood n [] = Unit
 AllGood n (r ∷ rows) = (rowRefusal n r ≡ 0) × AllGood n rows
-
--- A refusal is no praise.
-pub never-good : (x : Refusal) → Refused x ≡ Good → ⊥
-never-good x e = let z : _≡_ {A = ℕ} 0 1 = cc in omega arith
 
 module _ (n : ℕ) where
   -- Rows of which none is bad are judged good.

@@ -4,7 +4,6 @@ pub mod GoodRows
 pub mod Ways
 pub mod Refusals
 pub mod Editing
-pub mod FirstPlace
 pub mod Promises
 mod Cases
 mod Places

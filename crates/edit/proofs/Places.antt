@@ -6,17 +6,15 @@ use mathlib.Core.Path.{_≡_, refl, _∙_, ap, sym}
 use Prim.Native.Nat.{ℕ, _+_, _-_, _≤_, _<_}
 use native.Mathlib.Omega.{arith}
 use native.Mathlib.Nat.{add-comm}
-use native.Mathlib.Numerals.{add-one}
 use mathlib.Core.Bool.{Bool}
 use mathlib.Core.List.{List, [], _∷_, _++_, map}
-use borrow.Author.Tests.{eq-eqb, ne-eqb}
 use borrow.Rule.Slice.PartMut.{midOf, putMid, mid-len}
 use lib.ListN.{length, getD, set, take, drop, replicate, length-drop, drop-of-length-le}
-use lib.Seq.{drop-cons, take-at, getD-drop}
+use lib.Seq.{take-at, getD-drop}
 use Rattle.lists.specs.Lists.{build}
 use Rattle.lists.proofs.Build.{build-of, map-build, is-build, length-build}
 use Rattle.lists.proofs.Filling.{filled, filled-more, filled-all, filled-past, filled-long}
-use Rattle.edit.specs.Edit.{stepBy, firstPlace}
+use Rattle.edit.specs.Edit.{stepBy}
 
 pub three-set : {a b d : ℕ} (part : List ℕ) → length part ≡ 3 → set (set (set part 0 a) 1 b) 2 d ≡ a ∷ b ∷ d ∷ []
 three-set [] h = absurd (omega arith)
@@ -72,17 +70,3 @@ module _ (d : List ℕ) where
 
       behind : drop (length part - k) (drop k part) ≡ []
       behind = drop-of-length-le (drop k part) {i = length part - k} (omega (arith, length-drop k part))
-
--- the place of a number, searched from the front
-module _ (x : ℕ) (part : List ℕ) (i : ℕ) where
-  pub place-here : i < length part → x ≡ getD part i 0 → i + firstPlace x (drop i part) ≡ i
-  unfolding firstPlace
-  place-here h e = rw (drop-cons part i 0 h, eq-eqb x (getD part i 0) e) (omega arith)
-
-  pub place-next : i < length part → (x ≡ getD part i 0 → ⊥) → i + firstPlace x (drop i part) ≡ i + 1 + firstPlace x (drop (i + 1) part)
-  unfolding firstPlace
-  place-next h other = rw (drop-cons part i 0 h, ne-eqb x (getD part i 0) other, add-one i) (omega arith)
-
-  pub place-end : length part ≤ i → i + firstPlace x (drop i part) ≡ i
-  unfolding firstPlace
-  place-end h = rw (drop-of-length-le part h) (omega arith)

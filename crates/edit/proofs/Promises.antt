@@ -31,15 +31,16 @@ use Rattle.table.specs.declared.Verdict.{Verdict}
 use Rattle.table.specs.declared.Verdict.the-variants.{Good, Refused}
 use Rattle.table.specs.Table.{most-rows, distances, WellFormed}
 use Rattle.table.specs.Steps.{none}
+use Rattle.table.proofs.Judging.{never-good}
 use Rattle.edit.specs.declared.LinkLoad.{LinkLoad}
 use Rattle.edit.specs.Edit.{most-links, crosses, load, areaOf, nodesIn, countIn, loadIn, rowIn, rowsIn, Edit, Add, Change, Remove, sizeRefusal, editRefusal, aboutRow, verdictBy, rowsAfter, stepFor, loadAfter, behindAfter, edited, areaAfter, Opened, Edited, loadsIn, busiestIn, afterEdits, rowsBy}
 use Rattle.edit.proofs.Areas.{load-in-laid, nodes-in-area, count-in-area, load-in-area, row-in-area, rows-in-area}
 use Rattle.edit.proofs.Loads.{load-more, load-fewer, load-changed, load-few}
-use Rattle.edit.proofs.GoodRows.{AllGood, never-good, well-formed}
+use Rattle.edit.proofs.GoodRows.{AllGood, well-formed}
 use Rattle.edit.proofs.Ways.{loads-sum-to-sends}
 use Rattle.edit.proofs.Refusals.{size-of, size-fits, Fits, edit-fits, few-after, good-after}
 use Rattle.edit.proofs.Editing.{edited-area, rowsNext, area-after, keeps-next, keeps}
-use Rattle.edit.proofs.FirstPlace.{place-of, not-before, largest-there}
+use Rattle.lists.proofs.FirstPlace.{place-of, not-before, largest-there}
 
 -- ---- one outcome
 -- Two outcomes of opening a table that fit its promise are equal: the verdict, and every number of the area.

@@ -5,19 +5,19 @@
 --     listed-columns             the columns hold the rows of the area
 -- Assumes nothing.
 use mathlib.Core.Path.{_≡_, refl, _∙_, ap, sym}
-use mathlib.Core.Bool.{Bool, true, false, cond}
-use mathlib.Core.List.{List, [], _∷_}
-use Prim.Native.Nat.{ℕ, suc, _+_, _*_, _-_, _≤_, _<_, min}
+use mathlib.Core.Bool.{Bool, true, false}
+use mathlib.Core.List.{List}
+use Prim.Native.Nat.{ℕ, _+_, _*_, _-_, _≤_, _<_, min}
 use native.Mathlib.Omega.{arith}
 use borrow.Author.Tests.{ltb-true, ltb-false}
 use borrow.Rule.Slice.PartMut.{midOf, mid-len}
-use lib.Dec.{eqb, ltb}
+use lib.Dec.{ltb}
 use lib.ListN.{length, getD, drop, List·getD-eq-default}
 use lib.Seq.{getD-take, getD-drop}
 use Rattle.lists.proofs.Build.{length-build, getD-build, is-build, build-ext}
 use Rattle.table.specs.Table.{most-rows}
 use Rattle.table.specs.Steps.{listed}
-use Rattle.edit.specs.Edit.{most-links, nodesIn, countIn, loadIn, loadsIn, rowIn, rowsIn, firstPlace}
+use Rattle.edit.specs.Edit.{most-links, nodesIn, countIn, loadIn, loadsIn, rowIn, rowsIn}
 use Rattle.edit.specs.Steps.{thirds, room}
 
 module _ (s : List ℕ) (m : ℕ) (most : m ≡ min (nodesIn s) most-links) where
@@ -33,15 +33,6 @@ module _ (s : List ℕ) (m : ℕ) (most : m ≡ min (nodesIn s) most-links) wher
   unfolding loadsIn loadIn
   loads-part whole =
       is-build (min (nodesIn s) most-links) (loadIn s) 0 (midOf 2 (2 + m - 2) s) (mid-len 2 (2 + m) s (omega arith) ∙ omega arith) (λ p h. getD-take (2 + m - 2) (drop 2 s) p 0 (omega arith) ∙ getD-drop 2 s p 0)
-
-pub place-fits : (x : ℕ) (l : List ℕ) → firstPlace x l ≤ length l
-unfolding firstPlace
-place-fits x [] = omega arith
-place-fits x (y ∷ l) = go (eqb x y) (place-fits x l)
-  where
-    go : (b : Bool) → firstPlace x l ≤ length l → cond {A = ℕ} b 0 (suc (firstPlace x l)) ≤ suc (length l)
-    go true h = omega arith
-    go false h = omega arith
 
 -- an entry of a column, inside it and past its end
 third-at : (s : List ℕ) (at i : ℕ) → length s ≡ room → 34 ≤ at → at ≤ 36 → getD (thirds at s) i 0 ≡ getD s (at + 3 * i) 0

@@ -5,7 +5,7 @@ use mathlib.Core.Bool.{Bool, true, false, cond, _||_, _&&_}
 use mathlib.Core.List.{List, [], _∷_, _++_}
 use lib.Dec.{eqb, ltb, leb}
 use lib.ListN.{length, getD, take, drop, replicate}
-use Rattle.lists.specs.Lists.{build, largest}
+use Rattle.lists.specs.Lists.{build, largest, firstPlace}
 use Rattle.table.specs.declared.Row.{Row}
 use Rattle.table.specs.declared.Verdict.{Verdict}
 use Rattle.table.specs.declared.Verdict.the-variants.{Good, Refused}
@@ -153,11 +153,6 @@ entryOf s k =
 -- The loads of the ring's links.
 unfoldable pub loadsIn : List ℕ → List ℕ
 loadsIn s = build (min (nodesIn s) most-links) (loadIn s)
-
--- The first place of a number in a list; its length where the list has none.
-unfoldable pub firstPlace : ℕ → List ℕ → ℕ
-firstPlace x [] = 0
-firstPlace x (y ∷ ys) = cond (eqb x y) 0 (suc (firstPlace x ys))
 
 -- The busiest of a list of loads: the lowest link of those with the largest load, and that load.
 unfoldable pub busiestIn : List ℕ → LinkLoad

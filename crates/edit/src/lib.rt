@@ -7,9 +7,10 @@ ghost use lib.Dec.{eqb};
 ghost use lib.ListN.{length, getD, drop};
 ghost use Rattle.table.specs.Table.{refuse, rowRefusal};
 ghost use Rattle.table.specs.Steps.{listed};
-ghost use Rattle.edit.specs.Edit.{Edit, Add, Change, Remove, Opened, Edited, sizeRefusal, refusalOf, numbers, nodesIn, countIn, rowIn, rowsIn, loadsIn, stepBy, stepFor, edited, entryOf, firstPlace, busiestIn, rowNamed};
+ghost use Rattle.edit.specs.Edit.{Edit, Add, Change, Remove, Opened, Edited, sizeRefusal, refusalOf, numbers, nodesIn, countIn, rowIn, rowsIn, loadsIn, stepBy, stepFor, edited, entryOf, busiestIn, rowNamed};
 ghost use Rattle.edit.specs.Steps.{Roomy, There, steppedWay, thirds};
 use lists::clear;
+use lists::first_place;
 use lists::greatest;
 use lists::zeros;
 use ring::Node;
@@ -315,20 +316,6 @@ pub fn link_load(table: &[u16; 1570], link: Node) -> u16
         return table[2 + p];
     }
     0
-}
-
-// The first place of a number in a list.
-fn first_place(part: &[u16], x: u16) -> usize
-    ensures { λ r. ⌜ r ≡ firstPlace x (now (part .entry)) ⌝ }
-{
-    let mut i = 0;
-    while i < part.len() {
-        if x == part[i] {
-            return i;
-        }
-        i += 1;
-    }
-    i
 }
 
 // The busiest of a list of loads.

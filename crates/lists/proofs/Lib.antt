@@ -1,4 +1,5 @@
 pub mod Build
 pub mod Figures
 pub mod Filling
+pub mod FirstPlace
 pub mod Fronts

@@ -1,7 +1,7 @@
 ghost use mathlib.Core.Path.{_≡_};
 ghost use Prim.Native.Nat.{ℕ, _≤_, _<_};
 ghost use lib.ListN.{length, replicate};
-ghost use Rattle.lists.specs.Lists.{total, largest};
+ghost use Rattle.lists.specs.Lists.{total, largest, firstPlace};
 
 // Sets every entry to 0.
 pub fn clear(part: &mut [u16])
@@ -42,6 +42,20 @@ pub fn greatest(part: &[u16]) -> u16
         i += 1;
     }
     most
+}
+
+// The first place of a number, and the number of entries where it has none.
+pub fn first_place(part: &[u16], x: u16) -> usize
+    ensures { λ r. ⌜ r ≡ firstPlace x (now (part .entry)) ⌝ }
+{
+    let mut i = 0;
+    while i < part.len() {
+        if x == part[i] {
+            return i;
+        }
+        i += 1;
+    }
+    i
 }
 
 // A place for each row that a table may have, all 0.

@@ -1,9 +1,10 @@
--- A proved outcome whose answer is flattened is the panel's: `flat-planned`, `held-planned`, `flat-read`, `flat-written`, `flat-opened` and `flat-edited`.
--- Two outcomes that fit one call are equal: `one-answer`, `one-plan` and `one-arrivals` of planning, `one-reading` and `one-rows` of reading, `one-writing` and `one-area` of writing, `one-opening` and `one-edit` of editing.
+-- A proved outcome whose answer is flattened is the panel's: `flat-planned`, `held-planned`, `flat-read`, `flat-written`, `flat-opened`, `flat-edited` and `flat-put`.
+-- Two outcomes that fit one call are equal: `one-answer`, `one-plan` and `one-arrivals` of planning, `one-reading` and `one-rows` of reading, `one-writing` and `one-area` of writing, `one-opening` and `one-edit` of editing, `one-put` of a sentence or a label.
 -- `edited-plans-alike`: a table that was edited is planned as the same rows entered afresh.
 -- Assumes nothing.
 use mathlib.Core.Path.{_≡_, _∙_, ap, sym}
 use Prim.Native.Nat.{ℕ}
+use mathlib.Core.Bool.{Bool}
 use mathlib.Core.List.{List, []}
 use Rattle.table.specs.declared.Row.{Row}
 use Rattle.planner.specs.declared.Answer.{Answer}
@@ -17,11 +18,14 @@ use Rattle.table.specs.Steps.{listed}
 use Rattle.edit.specs.Edit.{Edit, Opened, Edited, areaOf, nodesIn, rowsIn, afterEdits, rowsBy}
 use Rattle.edit.proofs.Areas.{nodes-in-area, rows-in-area}
 use Rattle.edit.proofs.Promises.{edits-make-rows}
+use Rattle.catalogue.specs.Catalogue as Catalogue
+use Rattle.catalogue.specs.Catalogue.{Put}
 use Rattle.panel.specs.declared.PlanAnswer.{PlanAnswer}
 use Rattle.panel.specs.declared.EditAnswer.{EditAnswer}
 use Rattle.panel.specs.declared.ReadAnswer.{ReadAnswer}
 use Rattle.panel.specs.declared.WriteAnswer.{WriteAnswer}
-use Rattle.panel.specs.Panel.{flatOf, flatReading, flatWriting, flatVerdict, PanelPlanned, PanelRead, PanelWritten, PanelOpened, PanelEdited}
+use Rattle.panel.specs.declared.SentenceAnswer.{SentenceAnswer}
+use Rattle.panel.specs.Panel.{flatOf, flatReading, flatWriting, flatVerdict, flatSentence, PanelPlanned, PanelRead, PanelWritten, PanelOpened, PanelEdited, PanelPut}
 
 pub flat-planned : (n : ℕ) (rows : List Row) {p a p′ a′ : List ℕ} {r : Answer} {s : PlanAnswer} → Planned n rows p a r p′ a′ → s ≡ flatOf r → PanelPlanned n rows p a s p′ a′
 flat-planned n rows {p} {a} d e = record {
@@ -45,6 +49,10 @@ flat-opened d e = record { answers = e ∙ ap flatVerdict (d .answers); fills = 
 
 pub flat-edited : {s s′ : List ℕ} {e : Edit} {v : Verdict} {r : EditAnswer} → Edited s e v s′ → r ≡ flatVerdict v → PanelEdited s e r s′
 flat-edited d e = record { answers = e ∙ ap flatVerdict (d .answers); fills = d .fills }
+
+pub flat-put : {text : List ℕ} {found : Bool} {bytes area area′ : List ℕ} {w : Writing} {r : SentenceAnswer} → Put text found bytes area w area′ → r ≡ flatSentence w → PanelPut text found bytes area r area′
+flat-put {text} {found} {bytes} {area} d e =
+    record { answers = e ∙ ap flatSentence (d .answers); fills = d .fills ∙ ap (λ (w : Writing). Catalogue.areaAfter w bytes area) (d .answers) }
 
 -- one call has one outcome: the same numbers, the same plan and the same arrivals
 module _ (n : ℕ) (rows : List Row) {p a p₁ a₁ p₂ a₂ : List ℕ} {s₁ s₂ : PlanAnswer} (d₁ : PanelPlanned n rows p a s₁ p₁ a₁) (d₂ : PanelPlanned n rows p a s₂ p₂ a₂) where
@@ -90,3 +98,8 @@ pub edited-plans-alike : (n : ℕ) (es : List Edit) {p a p₁ a₁ p₂ a₂ : L
 edited-plans-alike n es {p} {a} {p₁} {a₁} {p₂} {a₂} {r₁} {r₂} d₁ d₂ =
     let same = rw (edits-make-rows n es, nodes-in-area n (rowsBy n [] es), rows-in-area n (rowsBy n [] es)) at d₁ in
     (one-answer n (rowsBy n [] es) same d₂, one-plan n (rowsBy n [] es) same d₂, one-arrivals n (rowsBy n [] es) same d₂)
+
+-- the same numbers and the same bytes of a sentence or a label
+module _ (text : List ℕ) (found : Bool) (bytes : List ℕ) {area area₁ area₂ : List ℕ} {r₁ r₂ : SentenceAnswer} (d₁ : PanelPut text found bytes area r₁ area₁) (d₂ : PanelPut text found bytes area r₂ area₂) where
+  pub one-put : (r₁ ≡ r₂) × (area₁ ≡ area₂)
+  one-put = (d₁ .answers ∙ sym (d₂ .answers), d₁ .fills ∙ sym (d₂ .fills))

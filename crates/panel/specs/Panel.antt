@@ -1,7 +1,7 @@
 -- What the panel's functions give: the proved entry points' outcomes, with answers as plain numbers.
 use Prim.Native.Nat.{ℕ}
 use mathlib.Core.Path.{_≡_}
-use mathlib.Core.Bool.{cond}
+use mathlib.Core.Bool.{Bool, cond}
 use mathlib.Core.List.{List, [], _++_}
 use lib.Dec.{eqb}
 use lib.Ieee.{binary64, ofBits}
@@ -23,12 +23,15 @@ use Rattle.edit.specs.declared.Entry.the-variants.{Shown, Refused as NotShown}
 use Rattle.edit.specs.declared.LinkLoad.{LinkLoad}
 use Rattle.edit.specs.Edit as Edit
 use Rattle.edit.specs.Edit.{Edit, sizeRefusal, editRefusal, aboutRow, verdictBy, areaOf}
+use Rattle.catalogue.specs.Catalogue as Catalogue
+use Rattle.catalogue.specs.Catalogue.{numbers, fields, verdictOn, isIn, sentence, labelOf}
 use Rattle.panel.specs.declared.PlanAnswer.{PlanAnswer}
 use Rattle.panel.specs.declared.EditAnswer.{EditAnswer}
 use Rattle.panel.specs.declared.RowAnswer.{RowAnswer}
 use Rattle.panel.specs.declared.LinkAnswer.{LinkAnswer}
 use Rattle.panel.specs.declared.ReadAnswer.{ReadAnswer}
 use Rattle.panel.specs.declared.WriteAnswer.{WriteAnswer}
+use Rattle.panel.specs.declared.SentenceAnswer.{SentenceAnswer}
 
 -- An answer as plain numbers: an acceptance has number, row and slot 0, and a refusal has every figure 0.
 unfoldable pub flatOf : Answer → PlanAnswer
@@ -95,3 +98,20 @@ pub record PanelOpened (n : ℕ) (s : List ℕ) (r : EditAnswer) (s′ : List �
 pub record PanelEdited (s : List ℕ) (e : Edit) (r : EditAnswer) (s′ : List ℕ) : Type 0 where
   pub answers : r ≡ flatVerdict (verdictBy (editRefusal s e) (aboutRow s e))
   pub fills : s′ ≡ Edit.areaAfter s e
+
+-- What writing a sentence or a label comes to, as plain numbers: where it was written all but the length are 0, and a refusal has length 0.
+unfoldable pub flatSentence : Writing → SentenceAnswer
+flatSentence (Written k) = record { number = 0; row = 0; slot = 0; length = k }
+flatSentence (NotWritten r) = record { number = r .number; row = r .row; slot = r .slot .0; length = 0 }
+
+-- The full outcome of writing bytes of a catalogue from the panel: the flattened writing, and every byte of the lent area.
+pub record PanelPut (text : List ℕ) (found : Bool) (bytes area : List ℕ) (r : SentenceAnswer) (area′ : List ℕ) : Type 0 where
+  pub answers : r ≡ flatSentence (Catalogue.afterVerdict (verdictOn text) found bytes (length area))
+  pub fills : area′ ≡ Catalogue.areaAfter (Catalogue.afterVerdict (verdictOn text) found bytes (length area)) bytes area
+
+-- That of a sentence, and of a label.
+abbrev pub PanelSentence : (text : List ℕ) (number row slot : ℕ) (area : List ℕ) → SentenceAnswer → List ℕ → Type 0
+PanelSentence text number row slot = PanelPut text (isIn number numbers) (sentence text number row slot)
+
+abbrev pub PanelLabel : (text : List ℕ) (field : ℕ) (area : List ℕ) → SentenceAnswer → List ℕ → Type 0
+PanelLabel text field = PanelPut text (isIn field fields) (labelOf text field)

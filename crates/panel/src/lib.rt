@@ -2,7 +2,8 @@
 ghost use mathlib.Core.Path.{_≡_};
 ghost use lib.ListN.{getD};
 ghost use Rattle.edit.specs.Edit.{Add, Change, Remove, countIn, nodesIn, rowsIn, loadsIn, entryOf, busiestIn};
-ghost use Rattle.panel.specs.Panel.{flatOf, flatReading, flatWriting, flatVerdict, flatEntry, flatLink, PanelPlanned, PanelRead, PanelWritten, PanelOpened, PanelEdited};
+ghost use Rattle.panel.specs.Panel.{flatOf, flatReading, flatWriting, flatVerdict, flatEntry, flatLink, flatSentence, PanelPlanned, PanelRead, PanelWritten, PanelOpened, PanelEdited, PanelSentence, PanelLabel};
+ghost use Rattle.catalogue.specs.Catalogue.{verdictOn};
 use edit::Entry;
 use planner::Answer;
 use ring::Node;
@@ -40,7 +41,7 @@ pub struct WriteAnswer {
     pub length: usize,
 }
 
-// What opening a table or editing it comes to, as plain numbers: `number` is 0 where it was done and a refusal's own otherwise.
+// What opening a table, editing it or judging a catalogue comes to, as plain numbers: `number` is 0 where it was done and a refusal's own otherwise.
 #[repr(C)]
 pub struct EditAnswer {
     pub number: u16,
@@ -64,6 +65,15 @@ pub struct RowAnswer {
 pub struct LinkAnswer {
     pub link: u16,
     pub load: u16,
+}
+
+// What writing a sentence or a label comes to, as plain numbers: `number` is 0 where it was written and a refusal's own otherwise.
+#[repr(C)]
+pub struct SentenceAnswer {
+    pub number: u16,
+    pub row: u16,
+    pub slot: u16,
+    pub length: usize,
 }
 
 // An answer, flattened.
@@ -165,6 +175,26 @@ fn flat_entry(a: Entry) -> RowAnswer
             src: 0,
             dst: 0,
             due: 0,
+        },
+    }
+}
+
+// What writing a sentence or a label comes to, flattened.
+fn flat_sentence(a: Writing) -> SentenceAnswer
+    ensures { λ r. ⌜ r ≡ flatSentence a ⌝ }
+{
+    match a {
+        Writing::Written(length) => SentenceAnswer {
+            number: 0,
+            row: 0,
+            slot: 0,
+            length,
+        },
+        Writing::Refused(refusal) => SentenceAnswer {
+            number: refusal.number,
+            row: refusal.row,
+            slot: refusal.slot.0,
+            length: 0,
         },
     }
 }
@@ -282,4 +312,36 @@ pub extern "C" fn garboardle_plan_table(
     let columns = edit::columns_of(table);
     let answer = planner::plan_columns(table[0], rows, columns, plan, arrivals);
     flat(answer)
+}
+
+// Judges a catalogue.
+#[no_mangle]
+pub extern "C" fn garboardle_catalogue(catalogue: &[u8]) -> EditAnswer
+    ensures { λ r. ⌜ r ≡ flatVerdict (verdictOn (now (catalogue .entry))) ⌝ }
+{
+    flat_verdict(catalogue::judge(catalogue))
+}
+
+// Writes the sentence of an answer into the lent area.
+#[no_mangle]
+pub extern "C" fn garboardle_sentence(
+    catalogue: &[u8],
+    number: u16,
+    row: u16,
+    slot: u16,
+    area: &mut [u8],
+) -> SentenceAnswer
+    ensures { λ r. ⌜ PanelSentence (now (catalogue .entry)) number row slot (now (area .entry)) r (now (area .exit)) ⌝ }
+{
+    let writing = catalogue::sentence(catalogue, number, row, slot, area);
+    flat_sentence(writing)
+}
+
+// Writes the label of a field into the lent area.
+#[no_mangle]
+pub extern "C" fn garboardle_label(catalogue: &[u8], field: u16, area: &mut [u8]) -> SentenceAnswer
+    ensures { λ r. ⌜ PanelLabel (now (catalogue .entry)) field (now (area .entry)) r (now (area .exit)) ⌝ }
+{
+    let writing = catalogue::label(catalogue, field, area);
+    flat_sentence(writing)
 }

@@ -3,6 +3,7 @@
 --     rows-long, rows-at                     the rows that three columns hold
 --     its-destinations, its-dues, its-distances      their columns
 --     good-rows                              every row of a table without a bad row is good
+--     never-good                             a refusal is not the verdict `Good`
 -- Assumes nothing.
 use mathlib.Core.Path.{_≡_, refl, _∙_}
 use Prim.Native.Nat.{ℕ, zero, suc, _+_, _≤_, _<_}
@@ -22,6 +23,10 @@ use Rattle.table.specs.declared.Refusal.{Refusal}
 use Rattle.table.specs.declared.Verdict.the-variants.{Good, Refused}
 use Rattle.table.specs.Table.{latest-due, refuse, rowRefusal, judgeRows, destinations, dues, distances}
 use Rattle.table.specs.Steps.{none, rowsOf, SameRows}
+
+-- A refusal is no praise.
+pub never-good : (x : Refusal) → Refused x ≡ Good → ⊥
+never-good x e = let z : _≡_ {A = ℕ} 0 1 = cc in omega arith
 
 module _ (n : ℕ) (rows : List Row) (i : ℕ) where
   pub judge-here : i < length rows → (rowRefusal n (getD rows i none) ≡ 0 → ⊥) → judgeRows n (drop i rows) i ≡ Refused (refuse (rowRefusal n (getD rows i none)) (i + 1) 0)

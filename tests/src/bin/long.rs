@@ -1,6 +1,7 @@
 //! long SECONDS [SEED]: random tables of every kind until the time is up, and one line of figures.
 
 use panel_tests::cases::{faulty, large, small, Kind, Tally};
+use panel_tests::catalogues;
 use panel_tests::edits::{damaged, few, full, Met};
 use panel_tests::random::Random;
 use panel_tests::texts::{harmed, there_and_back};
@@ -22,7 +23,7 @@ fn main() {
     let first: u64 = words
         .next()
         .map_or_else(now, |w| w.parse().expect("the seed is no number"));
-    let kinds: [(&str, Kind, usize); 8] = [
+    let kinds: [(&str, Kind, usize); 9] = [
         ("small", small, 60),
         ("large", large, 4),
         ("refused", faulty, 12),
@@ -31,8 +32,9 @@ fn main() {
         ("edit", |random| full(random, &mut Met::default()), 1),
         ("edit", |random| few(random, &mut Met::default()), 12),
         ("edit", |random| damaged(random, &mut Met::default()), 24),
+        ("catalogue", catalogues::any, 24),
     ];
-    let mut tallies: [Tally; 8] = Default::default();
+    let mut tallies: [Tally; 9] = Default::default();
     let start = Instant::now();
     let mut seed = first;
     while start.elapsed() < Duration::from_secs(seconds) {
@@ -49,6 +51,6 @@ fn main() {
             }
         }
     }
-    let [small, large, refused, texts, wrong, full, few, damaged] = tallies;
-    println!("long: {} tables in {seconds} s from seed {first}, none fails: small {small:?}, large {large:?}, with faults {refused:?}, as text {texts:?}, as text with faults {wrong:?}, edited {full:?} {few:?} {damaged:?}", seed - first);
+    let [small, large, refused, texts, wrong, full, few, damaged, catalogues] = tallies;
+    println!("long: {} tables in {seconds} s from seed {first}, none fails: small {small:?}, large {large:?}, with faults {refused:?}, as text {texts:?}, as text with faults {wrong:?}, edited {full:?} {few:?} {damaged:?}, catalogues {catalogues:?}", seed - first);
 }

@@ -2,7 +2,7 @@
 -- Assumes nothing.
 use native.Mathlib.Omega.{arith}
 use borrow.Author.Needs.{needs}
-use Rattle.edit.proofs.Reading.{place-fits}
+use Rattle.lists.proofs.FirstPlace.{place-fits}
 use Rattle.edit.specs.Edit.{busiestIn}
 use Rattle.edit.proofs.busiest_in.Statement.{statement}
 use Rattle.edit.proofs.busiest_in.Tie as tie

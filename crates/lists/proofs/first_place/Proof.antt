@@ -1,14 +1,14 @@
--- `edit::first_place` meets its contract: as long as the entries passed are others, the place is that in the rest, counted on.
+-- `lists::first_place` meets its contract: as long as the entries passed are others, the place is that in the rest, counted on.
 -- Assumes nothing.
 use mathlib.Core.Path.{sym, _≡_, _∙_}
 use Prim.Native.Nat.{_+_, _≤_, _-_}
 use native.Mathlib.Omega.{arith}
 use borrow.Author.Needs.{needs}
 use lib.ListN.{length, drop}
-use Rattle.edit.proofs.Places.{place-here, place-next, place-end}
-use Rattle.edit.specs.Edit.{firstPlace}
-use Rattle.edit.proofs.first_place.Statement.{statement}
-use Rattle.edit.proofs.first_place.Tie as tie
+use Rattle.lists.proofs.FirstPlace.{place-here, place-next, place-end}
+use Rattle.lists.specs.Lists.{firstPlace}
+use Rattle.lists.proofs.first_place.Statement.{statement}
+use Rattle.lists.proofs.first_place.Tie as tie
 
 abbrev Inv-loop : tie.InvT-loop
 Inv-loop part x i₀ i = (i ≤ length part) × (firstPlace x part ≡ i + firstPlace x (drop i part))

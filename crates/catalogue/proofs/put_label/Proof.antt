@@ -1,0 +1,75 @@
+-- `catalogue::put_label` meets its contract: 33 for a field that isn't there, and else the string of its line.
+-- Assumes nothing.
+use mathlib.Core.Path.{_∙_}
+use Prim.Native.Nat.{_≤_}
+use native.Mathlib.Omega.{arith}
+use borrow.Author.Needs.{needs}
+use Rattle.catalogue.proofs.Strings.{good-lines}
+use Rattle.catalogue.proofs.Putting.{no-field, is-field, label-string, without-string, with-string}
+use Rattle.catalogue.proofs.put_label.Statement.{statement}
+use Rattle.catalogue.proofs.put_label.Tie as tie
+
+not-written-requires : tie.Need-not-written-requires
+not-written-requires c κs = search needs
+
+returns : tie.Need-returns
+returns c =
+    let a = c .before .before .before .before .args in
+    without-string (a .text .now) _ _ (a .area .now) (c .before .before .before .before .pre) (no-field (a .field) (λ i l h e. absurd (omega (arith, c .before .if1 .taken)))) (c .not-written .ensures)
+
+not-written-requires-2 : tie.Need-not-written-requires-2
+not-written-requires-2 c κs = search needs
+
+returns-2 : tie.Need-returns-2
+returns-2 c =
+    let a = c .before .before .before .before .before .args in
+    without-string (a .text .now) _ _ (a .area .now) (c .before .before .before .before .before .pre) (no-field (a .field) (λ i l h e. absurd (omega (arith, c .before .if2 .taken)))) (c .not-written2 .ensures)
+
+add-string-of : tie.Need-add-string-of
+add-string-of c = search needs
+
+sub-string-of : tie.Need-sub-string-of
+sub-string-of c = search needs
+
+string-of-requires : tie.Need-string-of-requires
+string-of-requires c κs = (good-lines _ (c .before .before .before .before .pre), omega arith)
+
+sub-put-string : tie.Need-sub-put-string
+sub-put-string c = search needs
+
+part-put-string-start : tie.Need-part-put-string-start
+part-put-string-start c = search needs
+
+part-put-string-end : tie.Need-part-put-string-end
+part-put-string-end c = search needs
+
+put-string-requires : tie.Need-put-string-requires
+put-string-requires c κs = search needs
+
+same-length : tie.Need-same-length
+same-length c = search needs
+
+returns-3 : tie.Need-returns-3
+returns-3 c =
+    let a = c .before .before .before .before .before .before .before .before .before .before .args in
+    let some : 1 ≤ a .field = omega arith in
+    let few : a .field ≤ 6 = omega arith in
+    with-string (a .text .now) _ _ (a .area .now) (c .before .before .before .before .before .before .before .before .before .before .pre) (is-field (a .field) some few) (c .before .before .before .before .before .string-of .ensures .holds ∙ label-string (a .text .now) (a .field) some few) (c .before .before .put-string .ensures)
+
+pub put-label-spec : {M : Type 1} → statement M
+put-label-spec =
+    tie.close
+    (tie.spec
+    not-written-requires
+    returns
+    not-written-requires-2
+    returns-2
+    add-string-of
+    sub-string-of
+    string-of-requires
+    sub-put-string
+    part-put-string-start
+    part-put-string-end
+    put-string-requires
+    same-length
+    returns-3)

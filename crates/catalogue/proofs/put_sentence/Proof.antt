@@ -1,0 +1,67 @@
+-- `catalogue::put_sentence` meets its contract: 33 for a number without a string, and else its string with the row and the slot.
+-- Assumes nothing.
+use native.Mathlib.Omega.{arith}
+use borrow.Author.Needs.{needs}
+use Rattle.catalogue.specs.Catalogue.{numbers}
+use Rattle.catalogue.proofs.Strings.{good-lines}
+use Rattle.catalogue.proofs.Putting.{in-list, not-in-list, sentence-spoken, without-string, with-string}
+use Rattle.catalogue.proofs.put_sentence.Statement.{statement}
+use Rattle.catalogue.proofs.put_sentence.Tie as tie
+
+place-of-requires : tie.Need-place-of-requires
+place-of-requires c κs = search needs
+
+not-written-requires : tie.Need-not-written-requires
+not-written-requires c κs = search needs
+
+returns : tie.Need-returns
+returns c =
+    let a = c .before .before .before .before .before .args in
+    without-string (a .text .now) _ _ (a .area .now) (c .before .before .before .before .before .pre) (not-in-list (a .number) numbers (omega (arith, c .before .before .place-of .ensures))) (c .not-written .ensures)
+
+string-of-requires : tie.Need-string-of-requires
+string-of-requires c κs = (good-lines _ (c .before .before .before .before .pre), omega arith)
+
+sub-put-spoken : tie.Need-sub-put-spoken
+sub-put-spoken c = search needs
+
+part-put-spoken-start : tie.Need-part-put-spoken-start
+part-put-spoken-start c = search needs
+
+part-put-spoken-end : tie.Need-part-put-spoken-end
+part-put-spoken-end c = search needs
+
+shown-requires : tie.Need-shown-requires
+shown-requires c κs = search needs
+
+shown-requires-2 : tie.Need-shown-requires-2
+shown-requires-2 c κs = search needs
+
+put-spoken-requires : tie.Need-put-spoken-requires
+put-spoken-requires c κs = search needs
+
+same-length : tie.Need-same-length
+same-length c = search needs
+
+returns-2 : tie.Need-returns-2
+returns-2 c =
+    let a = c .before .before .before .before .before .before .before .before .before .before .before .before .args in
+    let place = c .before .before .before .before .before .before .before .before .before .place-of in
+    with-string (a .text .now) _ _ (a .area .now) (c .before .before .before .before .before .before .before .before .before .before .before .before .pre) (in-list (a .number) numbers (omega (arith, place .ensures))) (sentence-spoken (a .text .now) (a .number) (a .row) (a .slot) (place .result) (c .before .before .before .before .before .before .before .string-of .ensures .holds) (place .ensures) (c .before .before .before .before .before .shown .ensures) (c .before .before .before .before .shown2 .ensures)) (c .before .before .put-spoken .ensures)
+
+pub put-sentence-spec : {M : Type 1} → statement M
+put-sentence-spec =
+    tie.close
+    (tie.spec
+    place-of-requires
+    not-written-requires
+    returns
+    string-of-requires
+    sub-put-spoken
+    part-put-spoken-start
+    part-put-spoken-end
+    shown-requires
+    shown-requires-2
+    put-spoken-requires
+    same-length
+    returns-2)

@@ -1,0 +1,84 @@
+-- `catalogue::put_spoken` meets its contract: three pieces written one behind the other.
+-- Assumes nothing.
+use Prim.Native.Nat.{_≤_}
+use native.Mathlib.Omega.{arith}
+use borrow.Author.Needs.{needs}
+use lib.ListN.{length}
+use Rattle.text.proofs.Numeral.{width-most}
+use Rattle.catalogue.specs.Catalogue.{spoken}
+use Rattle.catalogue.proofs.Putting.{no-room, spoken-long, row-fits, slot-fits, spoken-put}
+use Rattle.catalogue.proofs.put_spoken.Statement.{statement}
+use Rattle.catalogue.proofs.put_spoken.Tie as tie
+
+width-of-requires : tie.Need-width-of-requires
+width-of-requires c κs = search needs
+
+add-length : tie.Need-add-length
+add-length c = omega (arith, width-most (c .before .before .before .args .row), c .width-of .ensures)
+
+width-of-requires-2 : tie.Need-width-of-requires-2
+width-of-requires-2 c κs = search needs
+
+add-length-2 : tie.Need-add-length-2
+add-length-2 c = omega (arith, width-most (c .before .before .before .before .args .row), width-most (c .before .before .before .before .args .slot), c .before .width-of .ensures, c .width-of2 .ensures)
+
+add-length-3 : tie.Need-add-length-3
+add-length-3 c = omega (arith, width-most (c .before .before .before .before .args .row), width-most (c .before .before .before .before .args .slot), c .before .width-of .ensures, c .width-of2 .ensures)
+
+not-written-requires : tie.Need-not-written-requires
+not-written-requires c κs = search needs
+
+returns : tie.Need-returns
+returns c =
+    let a = c .before .before .before .before .before .before .args in
+    no-room (spoken (a .string .now) (a .row) (a .slot)) (a .area .now) (c .not-written .ensures) (omega (arith, spoken-long (a .string .now) (a .row) (a .slot), c .before .before .before .width-of .ensures, c .before .before .width-of2 .ensures))
+
+put-bytes-requires : tie.Need-put-bytes-requires
+put-bytes-requires c κs = search needs
+
+slice-aggregate-put-item : tie.Need-slice-aggregate-put-item
+slice-aggregate-put-item c = search needs
+
+put-item-requires : tie.Need-put-item-requires
+put-item-requires c κs =
+    let a = c .before .before .before .before .before .before .before .before .before .before .before .args in
+    let fits : length (spoken (a .string .now) (a .row) (a .slot)) ≤ length (a .area .now) = omega (arith, spoken-long (a .string .now) (a .row) (a .slot), c .before .before .before .before .before .before .before .before .width-of .ensures, c .before .before .before .before .before .before .before .width-of2 .ensures) in
+    let one = c .before .before .before .before .put-bytes in
+    (row-fits (a .string .now) (a .area .now) (a .row) (a .slot) fits (one .result) (one .last .0) (one .ensures), omega arith)
+
+put-numeral-requires : tie.Need-put-numeral-requires
+put-numeral-requires c κs =
+    let a = c .before .before .before .before .before .before .before .before .before .before .before .before .before .before .before .args in
+    let fits : length (spoken (a .string .now) (a .row) (a .slot)) ≤ length (a .area .now) = omega (arith, spoken-long (a .string .now) (a .row) (a .slot), c .before .before .before .before .before .before .before .before .before .before .before .before .width-of .ensures, c .before .before .before .before .before .before .before .before .before .before .before .width-of2 .ensures) in
+    let one = c .before .before .before .before .before .before .before .before .put-bytes in
+    let two = c .before .before .before .put-item in
+    slot-fits (a .string .now) (a .area .now) (a .row) (a .slot) fits (one .result) (one .last .0) (one .ensures) (two .result) (two .last .0) (two .ensures)
+
+same-length : tie.Need-same-length
+same-length c = search needs
+
+returns-2 : tie.Need-returns-2
+returns-2 c =
+    let a = c .before .before .before .before .before .before .before .before .before .before .before .before .before .before .before .before .before .before .args in
+    let fits : length (spoken (a .string .now) (a .row) (a .slot)) ≤ length (a .area .now) = omega (arith, spoken-long (a .string .now) (a .row) (a .slot), c .before .before .before .before .before .before .before .before .before .before .before .before .before .before .before .width-of .ensures, c .before .before .before .before .before .before .before .before .before .before .before .before .before .before .width-of2 .ensures) in
+    let one = c .before .before .before .before .before .before .before .before .before .before .before .put-bytes in
+    let two = c .before .before .before .before .before .before .put-item in
+    spoken-put (a .string .now) (a .area .now) (a .row) (a .slot) fits (one .result) (one .last .0) (one .ensures) (two .result) (two .last .0) (two .ensures) (omega (arith, c .before .before .before .before .before .before .before .before .before .before .before .before .before .before .before .width-of .ensures, c .before .before .before .before .before .before .before .before .before .before .before .before .before .before .width-of2 .ensures)) (c .before .before .put-numeral .ensures .1)
+
+pub put-spoken-spec : {M : Type 1} → statement M
+put-spoken-spec =
+    tie.close
+    (tie.spec
+    width-of-requires
+    add-length
+    width-of-requires-2
+    add-length-2
+    add-length-3
+    not-written-requires
+    returns
+    put-bytes-requires
+    slice-aggregate-put-item
+    put-item-requires
+    put-numeral-requires
+    same-length
+    returns-2)

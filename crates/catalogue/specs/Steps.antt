@@ -1,0 +1,41 @@
+-- What single steps of the code ask and give. No promise of an entry point mentions this; nothing here has to be believed.
+use Prim.Native.Nat.{ℕ, zero, suc, _+_, _-_, _≤_, _<_}
+use mathlib.Core.Path.{_≡_}
+use mathlib.Core.Bool.{true}
+use mathlib.Core.List.{List}
+use lib.ListN.{length, take, drop}
+use Rattle.text.specs.declared.Writing.{Writing}
+use Rattle.catalogue.specs.Catalogue.{numbers, fields, isEnded, behindLine, roomFor, areaAfter}
+use Rattle.catalogue.specs.declared.Key.{Key}
+use Rattle.catalogue.specs.declared.Span.{Span}
+
+-- How many lines a catalogue has.
+abbrev pub lines : ℕ
+lines = length numbers + length fields
+
+-- Four bytes of which the first hold a key.
+pub record HoldsKey (key : List ℕ) (held : Key) : Type 0 where
+  pub long : held .length ≡ length key
+  pub few : held .length ≤ 4
+  pub fits : held .length ≤ length (held .bytes)
+  pub holds : take (held .length) (held .bytes) ≡ key
+
+-- The text behind its first i lines.
+unfoldable pub linesOn : ℕ → List ℕ → List ℕ
+linesOn zero text = text
+linesOn (suc i) text = linesOn i (behindLine text)
+
+-- The first i lines of a text are ended.
+abbrev pub Ended : ℕ → List ℕ → Type 0
+Ended i text = (k : ℕ) → k < i → isEnded (linesOn k text) ≡ true
+
+-- A span of a text holds just these bytes.
+pub record SpanOf (text bytes : List ℕ) (span : Span) : Type 0 where
+  pub order : span .from ≤ span .to
+  pub inside : span .to ≤ length text
+  pub holds : take (span .to - span .from) (drop (span .from) text) ≡ bytes
+
+-- Bytes are written into the front of an area if they fit.
+pub record Fitted (bytes area : List ℕ) (w : Writing) (area′ : List ℕ) : Type 0 where
+  pub answers : w ≡ roomFor bytes (length area)
+  pub fills : area′ ≡ areaAfter w bytes area

@@ -1,0 +1,396 @@
+// A catalogue of strings above the planner: it turns an answer or a field into a sentence of the chosen language.
+ghost use mathlib.Core.Path.{_≡_};
+ghost use mathlib.Core.Bool.{true, cond};
+ghost use mathlib.Core.List.{[]};
+ghost use Prim.Native.Nat.{suc, _+_, _≤_, _<_};
+ghost use lib.Dec.{eqb};
+ghost use lib.ListN.{length, getD, drop, take};
+ghost use Rattle.lists.specs.Lists.{firstPlace};
+ghost use Rattle.table.specs.Table.{refuse};
+ghost use Rattle.text.specs.Text.{starts};
+ghost use Rattle.catalogue.specs.Catalogue.{keyOf, numbers, fields, keys, firstLine, stringRefusal, lineRefusal, linesVerdict, stringsIn, labelsIn, same, among, repeatedLine, verdictOn, spoken, named, SentencePut, LabelPut};
+ghost use Rattle.catalogue.specs.Steps.{lines, HoldsKey, linesOn, Ended, SpanOf, Fitted};
+use lists::first_place;
+use planner::Answer;
+use ring::Slot;
+use table::Refusal;
+use table::Verdict;
+use text::Writing;
+use text::key_at;
+use text::not_written;
+use text::put_bytes;
+use text::put_item;
+use text::put_numeral;
+use text::width_of;
+
+// How many answers have a string, how many fields have a label, and how many lines that makes.
+const ANSWERS: usize = 18;
+
+const FIELDS: usize = 6;
+
+const LINES: usize = 24;
+
+// The refusal of a number or a field that has no string.
+const NO_STRING: u16 = 33;
+
+// The numbers of the answers that have a string, in the order of their lines.
+const NUMBERS: [u16; 18] = [0, 1, 2, 3, 4, 5, 6, 7, 8, 9, 12, 20, 21, 22, 30, 31, 32, 33];
+
+// A key's bytes, and how many of the four it has.
+pub struct Key {
+    pub bytes: [u8; 4],
+    pub length: usize,
+}
+
+// Where a string of a text begins and ends.
+pub struct Span {
+    pub from: usize,
+    pub to: usize,
+}
+
+// The number of the i-th answer that has a string.
+fn number_at(i: usize) -> u16
+    requires { ⌜ i < length numbers ⌝ }
+    ensures { λ r. ⌜ r ≡ getD numbers i 0 ⌝ }
+{
+    NUMBERS[i]
+}
+
+// The key of a letter and a number below 100.
+fn key_of(letter: u8, number: u16) -> Key
+    requires { ⌜ number < 100 ⌝ }
+    ensures { λ r. ⌜ HoldsKey (keyOf letter number) r ⌝ }
+{
+    if number < 10 {
+        return Key {
+            bytes: [letter, 48 + number as u8, 61, 0],
+            length: 3,
+        };
+    }
+    Key {
+        bytes: [
+            letter,
+            48 + (number / 10) as u8,
+            48 + (number % 10) as u8,
+            61,
+        ],
+        length: 4,
+    }
+}
+
+// The key of line i, counted from 0.
+fn line_key(i: usize) -> Key
+    requires { ⌜ i < lines ⌝ }
+    ensures { λ r. ⌜ HoldsKey (getD keys i []) r ⌝ }
+{
+    if i < ANSWERS {
+        return key_of(114, number_at(i));
+    }
+    key_of(102, (i - ANSWERS + 1) as u16)
+}
+
+// Where the line that begins at a place ends: its line feed, or the end of the text.
+fn line_end(text: &[u8], at: usize) -> usize
+    requires { ⌜ at ≤ length (now text) ⌝ }
+    ensures { λ r. ⌜ r ≡ at + length (firstLine (drop at (now (text .entry)))) ⌝ }
+{
+    let mut end = at;
+    while end < text.len() {
+        if text[end] == 10 {
+            return end;
+        }
+        end += 1;
+    }
+    end
+}
+
+// What is wrong with a string of so many bytes: 31, or 0 where nothing is.
+fn string_refusal(bytes: usize) -> u16
+    ensures { λ r. ⌜ r ≡ stringRefusal bytes ⌝ }
+{
+    if bytes == 0 {
+        return 31;
+    }
+    if 96 < bytes {
+        return 31;
+    }
+    0
+}
+
+// What is wrong with line i, which begins at a place: 30, 31, or 0 where nothing is.
+fn line_refusal(text: &[u8], at: usize, i: usize) -> u16
+    requires { ⌜ (at ≤ length (now text)) × (i < lines) ⌝ }
+    ensures { λ r. ⌜ r ≡ lineRefusal (getD keys i []) (drop at (now (text .entry))) ⌝ }
+{
+    let end = line_end(text, at);
+    if end == text.len() {
+        return 30;
+    }
+    let key = line_key(i);
+    let bytes = key.bytes;
+    if key_at(text, at, &bytes[..key.length]) {
+        return string_refusal(end - at - key.length);
+    }
+    30
+}
+
+// A refusal by number and line.
+fn refused(number: u16, line: u16) -> Verdict
+    ensures { λ r. ⌜ r ≡ Verdict.Refused (refuse number line 0) ⌝ }
+{
+    Verdict::Refused(Refusal {
+        number,
+        row: line,
+        slot: Slot(0),
+    })
+}
+
+// The refusal of the first bad line, and of whatever stands behind the last.
+fn judge_lines(text: &[u8]) -> Verdict
+    ensures { λ r. ⌜ r ≡ linesVerdict keys 0 (now (text .entry)) ⌝ }
+{
+    let mut at = 0;
+    let mut i = 0;
+    while i < LINES {
+        let number = line_refusal(text, at, i);
+        if number != 0 {
+            return refused(number, (i + 1) as u16);
+        }
+        at = line_end(text, at) + 1;
+        i += 1;
+    }
+    if at < text.len() {
+        return refused(30, (i + 1) as u16);
+    }
+    Verdict::Good
+}
+
+// Where line i begins, in a text whose lines before it are ended.
+fn line_start(text: &[u8], i: usize) -> usize
+    requires { ⌜ Ended i (now text) ⌝ }
+    ensures { λ r. ⌜ (r ≤ length (now (text .entry))) × (drop r (now (text .entry)) ≡ linesOn i (now (text .entry))) ⌝ }
+{
+    let mut at = 0;
+    let mut k = 0;
+    while k < i {
+        at = line_end(text, at) + 1;
+        k += 1;
+    }
+    at
+}
+
+// Whether two parts of a text are equal, byte by byte.
+fn same_bytes(a: &[u8], b: &[u8]) -> bool
+    ensures { λ r. ⌜ r ≡ same (now (a .entry)) (now (b .entry)) ⌝ }
+{
+    if a.len() != b.len() {
+        return false;
+    }
+    let mut i = 0;
+    while i < a.len() {
+        if a[i] != b[i] {
+            return false;
+        }
+        i += 1;
+    }
+    true
+}
+
+// Where the string of line i begins and ends, in a text whose lines are all right.
+fn string_of(text: &[u8], i: usize) -> Span
+    requires { ⌜ (linesVerdict keys 0 (now text) ≡ Verdict.Good) × (i < lines) ⌝ }
+    ensures { λ r. ⌜ SpanOf (now (text .entry)) (getD (stringsIn keys (now (text .entry))) i []) r ⌝ }
+{
+    let at = line_start(text, i);
+    let key = line_key(i);
+    Span {
+        from: at + key.length,
+        to: line_end(text, at),
+    }
+}
+
+// Whether the string of line i is that of line k too.
+fn same_string(text: &[u8], i: usize, k: usize) -> bool
+    requires { ⌜ (linesVerdict keys 0 (now text) ≡ Verdict.Good) × (i < lines) × (k < lines) ⌝ }
+    ensures { λ r. ⌜ r ≡ same (getD (stringsIn keys (now (text .entry))) i []) (getD (stringsIn keys (now (text .entry))) k []) ⌝ }
+{
+    let a = string_of(text, i);
+    let b = string_of(text, k);
+    let a_from = a.from;
+    let a_to = a.to;
+    let b_from = b.from;
+    let b_to = b.to;
+    same_bytes(&text[a_from..a_to], &text[b_from..b_to])
+}
+
+// Whether label k, counted from 0, repeats an earlier one.
+fn repeats(text: &[u8], k: usize) -> bool
+    requires { ⌜ (linesVerdict keys 0 (now text) ≡ Verdict.Good) × (k < length fields) ⌝ }
+    ensures { λ r. ⌜ r ≡ among (getD (labelsIn (now (text .entry))) k []) (take k (labelsIn (now (text .entry)))) ⌝ }
+{
+    let mut j = 0;
+    while j < k {
+        if same_string(text, ANSWERS + k, ANSWERS + j) {
+            return true;
+        }
+        j += 1;
+    }
+    false
+}
+
+// The line of the first label that repeats an earlier one, 0 where none does.
+fn repeated_line(text: &[u8]) -> u16
+    requires { ⌜ linesVerdict keys 0 (now text) ≡ Verdict.Good ⌝ }
+    ensures { λ r. ⌜ r ≡ repeatedLine (now (text .entry)) ⌝ }
+{
+    let mut k = 0;
+    while k < FIELDS {
+        if repeats(text, k) {
+            return (ANSWERS + k + 1) as u16;
+        }
+        k += 1;
+    }
+    0
+}
+
+// Judges a catalogue: the first bad line decides, and equal labels come after all lines.
+pub fn judge(text: &[u8]) -> Verdict
+    ensures { λ r. ⌜ r ≡ verdictOn (now (text .entry)) ⌝ }
+{
+    let lines = judge_lines(text);
+    match lines {
+        Verdict::Refused(r) => Verdict::Refused(r),
+        Verdict::Good => {
+            let line = repeated_line(text);
+            if line == 0 {
+                return Verdict::Good;
+            }
+            refused(32, line)
+        }
+    }
+}
+
+// The place of a number among those that have a string; their count where it has none.
+fn place_of(number: u16) -> usize
+    ensures { λ r. ⌜ r ≡ firstPlace number numbers ⌝ }
+{
+    let numbers = NUMBERS;
+    first_place(&numbers, number)
+}
+
+// What a sentence shows of a row or a slot: 0 for acceptance.
+fn shown(number: u16, value: u16) -> u16
+    ensures { λ r. ⌜ r ≡ cond (eqb number 0) 0 value ⌝ }
+{
+    if number == 0 {
+        return 0;
+    }
+    value
+}
+
+// Writes a string, a space, the row, a space and the slot into an area that is long enough.
+fn put_spoken(string: &[u8], row: u16, slot: u16, area: &mut [u8]) -> Writing
+    ensures { λ r. ⌜ Fitted (spoken (now (string .entry)) row slot) (now (area .entry)) r (now (area .exit)) ⌝ }
+{
+    let length = string.len() + width_of(row as u32) + width_of(slot as u32) + 2;
+    if area.len() < length {
+        return not_written(22);
+    }
+    let second = put_bytes(area, 0, string);
+    let third = put_item(area, second, b" ", row, 32);
+    put_numeral(area, third, slot);
+    Writing::Written(length)
+}
+
+// Writes a string into an area that is long enough.
+fn put_string(string: &[u8], area: &mut [u8]) -> Writing
+    ensures { λ r. ⌜ Fitted (now (string .entry)) (now (area .entry)) r (now (area .exit)) ⌝ }
+{
+    if area.len() < string.len() {
+        return not_written(22);
+    }
+    put_bytes(area, 0, string);
+    Writing::Written(string.len())
+}
+
+// Writes the sentence of an answer, by a text that is a catalogue.
+fn put_sentence(text: &[u8], number: u16, row: u16, slot: u16, area: &mut [u8]) -> Writing
+    requires { ⌜ verdictOn (now text) ≡ Verdict.Good ⌝ }
+    ensures { λ r. ⌜ SentencePut (now (text .entry)) number row slot (now (area .entry)) r (now (area .exit)) ⌝ }
+{
+    let place = place_of(number);
+    if ANSWERS <= place {
+        return not_written(NO_STRING);
+    }
+    let span = string_of(text, place);
+    let from = span.from;
+    let to = span.to;
+    put_spoken(
+        &text[from..to],
+        shown(number, row),
+        shown(number, slot),
+        area,
+    )
+}
+
+// Writes the label of a field, by a text that is a catalogue.
+fn put_label(text: &[u8], field: u16, area: &mut [u8]) -> Writing
+    requires { ⌜ verdictOn (now text) ≡ Verdict.Good ⌝ }
+    ensures { λ r. ⌜ LabelPut (now (text .entry)) field (now (area .entry)) r (now (area .exit)) ⌝ }
+{
+    if field == 0 {
+        return not_written(NO_STRING);
+    }
+    if FIELDS < field as usize {
+        return not_written(NO_STRING);
+    }
+    let span = string_of(text, ANSWERS + field as usize - 1);
+    let from = span.from;
+    let to = span.to;
+    put_string(&text[from..to], area)
+}
+
+// Writes the sentence of an answer's number, row and slot: the catalogue is judged, then the number has to have a string, then the area room.
+pub fn sentence(text: &[u8], number: u16, row: u16, slot: u16, area: &mut [u8]) -> Writing
+    ensures { λ r. ⌜ SentencePut (now (text .entry)) number row slot (now (area .entry)) r (now (area .exit)) ⌝ }
+{
+    let verdict = judge(text);
+    match verdict {
+        Verdict::Refused(r) => Writing::Refused(r),
+        Verdict::Good => put_sentence(text, number, row, slot, area),
+    }
+}
+
+// Writes the label of a field: the catalogue is judged, then the field has to have a label, then the area room.
+pub fn label(text: &[u8], field: u16, area: &mut [u8]) -> Writing
+    ensures { λ r. ⌜ LabelPut (now (text .entry)) field (now (area .entry)) r (now (area .exit)) ⌝ }
+{
+    let verdict = judge(text);
+    match verdict {
+        Verdict::Refused(r) => Writing::Refused(r),
+        Verdict::Good => put_label(text, field, area),
+    }
+}
+
+// What an answer of the planner names.
+fn named_by(answer: Answer) -> Refusal
+    ensures { λ r. ⌜ r ≡ named answer ⌝ }
+{
+    match answer {
+        Answer::Accepted(_) => Refusal {
+            number: 0,
+            row: 0,
+            slot: Slot(0),
+        },
+        Answer::Refused(r) => r,
+    }
+}
+
+// Writes the sentence of an answer of the planner.
+pub fn sentence_of(text: &[u8], answer: Answer, area: &mut [u8]) -> Writing
+    ensures { λ r. ⌜ SentencePut (now (text .entry)) (named answer .number) (named answer .row) (named answer .slot .0) (now (area .entry)) r (now (area .exit)) ⌝ }
+{
+    let r = named_by(answer);
+    let slot = r.slot;
+    sentence(text, r.number, r.row, slot.0, area)
+}
