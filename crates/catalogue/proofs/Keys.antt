@@ -1,6 +1,7 @@
 -- The keys of a catalogue.
 --     one-digit, two-digits      the key of a number below 10, and of one below 100
 --     number-small               every number that has a string is below 100
+--     field-at                   the fields are counted from 1
 --     answer-key, field-key      the key of a line
 --     holds-one, holds-two       four bytes that hold such a key
 --     key-plain                  no key has a line feed
@@ -55,7 +56,7 @@ pub answer-key : (i : ℕ) → i < length numbers → keyOf 114 (getD numbers i 
 unfolding keys
 answer-key i h = sym (List·getD-append (map (keyOf 114) numbers) (map (keyOf 102) fields) [] i h ∙ key-at (keyOf 114) numbers i h)
 
-field-at : (j : ℕ) → j < length fields → getD fields j 0 ≡ suc j
+pub field-at : (j : ℕ) → j < length fields → getD fields j 0 ≡ suc j
 field-at j h = getD-build (length fields) suc j 0 h
 
 pub field-key : (i : ℕ) → length numbers ≤ i → i < lines → keyOf 102 (i - length numbers + 1) ≡ getD keys i []
@@ -63,7 +64,9 @@ unfolding keys
 field-key i l h =
     let sum : i ≡ length (map (keyOf 114) numbers) + (i - length numbers) = omega (arith, keys-long) in
     let one : suc (i - length numbers) ≡ i - length numbers + 1 = omega arith in
-    sym (ap (λ (k : ℕ). getD (map (keyOf 114) numbers ++ map (keyOf 102) fields) k []) sum ∙ getD-append-add (map (keyOf 114) numbers) (map (keyOf 102) fields) (i - length numbers) [] ∙ key-at (keyOf 102) fields (i - length numbers) (omega arith) ∙ ap (keyOf 102) (field-at (i - length numbers) (omega arith) ∙ one))
+    let here = getD-append-add (map (keyOf 114) numbers) (map (keyOf 102) fields) (i - length numbers) [] in
+    let field = key-at (keyOf 102) fields (i - length numbers) (omega arith) ∙ ap (keyOf 102) (field-at (i - length numbers) (omega arith) ∙ one) in
+    sym (ap (λ (k : ℕ). getD (map (keyOf 114) numbers ++ map (keyOf 102) fields) k []) sum ∙ here ∙ field)
 
 -- Four bytes that hold such a key.
 pub holds-one : (letter n : ℕ) → n < 10 → HoldsKey (keyOf letter n) (record { bytes = letter ∷ (48 + n) ∷ 61 ∷ 0 ∷ []; length = 3 })

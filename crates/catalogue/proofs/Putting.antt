@@ -10,13 +10,14 @@
 use mathlib.Core.Path.{_≡_, refl, _∙_, ap, sym}
 use mathlib.Core.Bool.{Bool, true, false, cond}
 use mathlib.Core.List.{List, [], _∷_, _++_, append-assoc}
-use Prim.Native.Nat.{ℕ, zero, suc, _+_, _-_, _≤_, _<_}
-use native.Mathlib.Omega.{arith}
+use Prim.Native.Nat.{ℕ, suc, _+_, _-_, _≤_, _<_}
+use native.Mathlib.Omega.{arith, by-contra}
 use native.Mathlib.Nat.{zero-add}
-use borrow.Author.Tests.{ne-eqb, lt-ltb, le-ltb}
+use borrow.Author.Tests.{lt-ltb, le-ltb}
 use lib.Dec.{eqb}
 use lib.ListN.{length, getD, length-append}
 use Rattle.lists.specs.Lists.{firstPlace}
+use Rattle.lists.proofs.FirstPlace.{Stands, found-there, place-of}
 use Rattle.table.specs.Table.{refuse}
 use Rattle.table.specs.declared.Refusal.{Refusal}
 use Rattle.table.specs.declared.Verdict.the-variants.{Good, Refused}
@@ -28,6 +29,7 @@ use Rattle.text.proofs.Numeral.{numeral-length}
 use Rattle.text.proofs.Pasting.{two-fits, three-fits, three-placed}
 use Rattle.catalogue.specs.Catalogue.{numbers, fields, keys, stringsIn, verdictOn, isIn, spoken, sentence, labelOf, roomFor, afterVerdict, areaAfter, Put}
 use Rattle.catalogue.specs.Steps.{Fitted}
+use Rattle.catalogue.proofs.Keys.{field-at}
 use Rattle.catalogue.proofs.Strings.{label-at}
 
 module _ (bytes area : List ℕ) where
@@ -81,28 +83,26 @@ module _ (x : ℕ) (list : List ℕ) where
   unfolding isIn
   not-in-list h = le-ltb (firstPlace x list) (length list) h
 
--- The fields are counted from 1.
-pub field-place : (f : ℕ) → 1 ≤ f → f ≤ 6 → firstPlace f fields ≡ f - 1
-unfolding firstPlace
-field-place zero l h = absurd (omega arith)
-field-place (suc zero) l h = refl
-field-place (suc (suc zero)) l h = refl
-field-place (suc (suc (suc zero))) l h = refl
-field-place (suc (suc (suc (suc zero)))) l h = refl
-field-place (suc (suc (suc (suc (suc zero))))) l h = refl
-field-place (suc (suc (suc (suc (suc (suc zero)))))) l h = refl
-field-place (suc (suc (suc (suc (suc (suc (suc f))))))) l h = absurd (omega arith)
+-- The fields are counted from 1, so a number is one of them exactly if it is in that range.
+field-place : (f : ℕ) → 1 ≤ f → f ≤ length fields → firstPlace f fields ≡ f - 1
+field-place f l h =
+    let there : Stands f fields (f - 1) = record { inside = omega arith; here = field-at (f - 1) (omega arith) ∙ omega arith } in
+    let first = place-of f fields (f - 1) there in
+    omega (arith, field-at (firstPlace f fields) (first .inside), first .here)
 
-pub is-field : (f : ℕ) → 1 ≤ f → f ≤ 6 → isIn f fields ≡ true
+pub is-field : (f : ℕ) → 1 ≤ f → f ≤ length fields → isIn f fields ≡ true
 is-field f l h = in-list f fields (omega (arith, field-place f l h))
 
-module _ (f : ℕ) (other : (i : ℕ) → 1 ≤ i → i ≤ 6 → f ≡ i → ⊥) where
-  pub no-field : isIn f fields ≡ false
-  unfolding isIn firstPlace
-  no-field = rw (ne-eqb f 1 (other 1 (omega arith) (omega arith)), ne-eqb f 2 (other 2 (omega arith) (omega arith)), ne-eqb f 3 (other 3 (omega arith) (omega arith)), ne-eqb f 4 (other 4 (omega arith) (omega arith)), ne-eqb f 5 (other 5 (omega arith) (omega arith)), ne-eqb f 6 (other 6 (omega arith) (omega arith)))
+pub no-field : (f : ℕ) → (1 ≤ f → f ≤ length fields → ⊥) → isIn f fields ≡ false
+no-field f other = not-in-list f fields (by-contra (length fields) (firstPlace f fields) found)
+  where
+    found : firstPlace f fields < length fields → ⊥
+    found h =
+        let here : suc (firstPlace f fields) ≡ f = sym (field-at (firstPlace f fields) h) ∙ found-there f fields h in
+        other (omega (arith, here)) (omega (arith, here))
 
 module _ (text : List ℕ) where
-  pub label-string : (f : ℕ) → 1 ≤ f → f ≤ 6 → getD (stringsIn keys text) (length numbers + f - 1) [] ≡ labelOf text f
+  pub label-string : (f : ℕ) → 1 ≤ f → f ≤ length fields → getD (stringsIn keys text) (length numbers + f - 1) [] ≡ labelOf text f
   unfolding labelOf
   label-string f l h =
       let line : length numbers + (f - 1) ≡ length numbers + f - 1 = omega arith in

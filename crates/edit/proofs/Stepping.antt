@@ -167,15 +167,15 @@ module _ (up : Bool) (n : ℕ) (r : Row) where
 
 -- the counts of a way, in one list of 32
 module _ (up : Bool) (n : ℕ) (r : Row) (l : List ℕ) (ring : n ≤ 32) (long : length l ≡ 32) where
-  pub way-ahead : (from to : ℕ) (ys : List ℕ) → from ≡ min (r .src) n → to ≡ min (r .dst) n → r .src < r .dst → ys ≡ map (stepBy up) (midOf from (to - from) l) → putMid from (to - from) l ys ≡ steppedWay up n r l
+  pub way-ahead : {from to : ℕ} {ys : List ℕ} → from ≡ min (r .src) n → to ≡ min (r .dst) n → r .src < r .dst → ys ≡ map (stepBy up) (midOf from (to - from) l) → putMid from (to - from) l ys ≡ steppedWay up n r l
   unfolding steppedWay
-  way-ahead from to ys f t way so =
+  way-ahead {from} {to} {ys} f t way so =
       part-stepped up from to l ys (omega arith) (omega arith) so ∙ rw long (build-ext 32 (λ p. inStretch up from to p (getD l p 0)) (λ p. stepFor up n r p (getD l p 0)) one)
     where
       one : (p : ℕ) → p < 32 → inStretch up from to p (getD l p 0) ≡ stepFor up n r p (getD l p 0)
       one p h = rw (f, t) (one-stretch up n r way p (getD l p 0))
 
-  pub way-round : (from to : ℕ) (ys zs : List ℕ)
+  pub way-round : {from to : ℕ} {ys zs : List ℕ}
       → from ≡ min (r .src) n
       → to ≡ min (r .dst) n
       → r .dst ≤ r .src
@@ -183,7 +183,7 @@ module _ (up : Bool) (n : ℕ) (r : Row) (l : List ℕ) (ring : n ≤ 32) (long 
       → zs ≡ map (stepBy up) (midOf 0 (to - 0) (putMid from (n - from) l ys))
       → putMid 0 (to - 0) (putMid from (n - from) l ys) zs ≡ steppedWay up n r l
   unfolding steppedWay
-  way-round from to ys zs f t way so last =
+  way-round {from} {to} {ys} {zs} f t way so last =
       part-stepped up 0 to l′ zs (omega arith) (omega (arith, whole)) last ∙ rw whole (build-ext 32 (λ p. inStretch up 0 to p (getD l′ p 0)) (λ p. stepFor up n r p (getD l p 0)) both)
     where
       l′ : List ℕ

@@ -93,5 +93,8 @@ computed c =
 
 -- Every case comes out as document 01 says.
 sweep-table : map computed cases ≡ cases
-unfolding row accepted case refused total largest distance standing rowRefusal judgeRows judge sources destinations dues distances lastDue underWay place slackOf slack isLate lateFrom lateRow better pick slotOf moved stateAt planOf deliveredFrom arrivalsOf anyUnderWay stopFrom stopOf ending thePlan theArrivals quotient summaryOf theSummary answerToRows afterVerdict theAnswer areaAfter div ofInt cases areas used computed
+unfolding row accepted case refused cases areas used computed total largest distance standing
+    rowRefusal judgeRows judge sources destinations dues distances lastDue
+    underWay place slackOf slack isLate lateFrom lateRow better pick slotOf moved stateAt planOf deliveredFrom arrivalsOf anyUnderWay stopFrom stopOf
+    ending thePlan theArrivals quotient summaryOf theSummary answerToRows afterVerdict theAnswer areaAfter div ofInt
 sweep-table = refl

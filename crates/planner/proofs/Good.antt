@@ -37,7 +37,7 @@ unfolding areaAfter
 filled true s row slot m given part before e f = rw (f, e)
 filled false s row slot m given part before e f = rw (f, e)
 
-module _ (n : ℕ) (src dst due : List ℕ) (k : Tabled n src dst due) (good : judgeRows n (rowsOf src dst due) 0 ≡ Good) where
+module _ {n : ℕ} {src dst due : List ℕ} (k : Tabled n src dst due) (good : judgeRows n (rowsOf src dst due) 0 ≡ Good) where
   abbrev rows : List Row
   rows = rowsOf src dst due
 
@@ -81,8 +81,8 @@ module _ (n : ℕ) (src dst due : List ℕ) (k : Tabled n src dst due) (good : j
       let r = row i (start-at i h .0) in
       rw (start-at i h .1) (apart n (getD src i 0) (getD dst i 0) (r .src-inside) (r .dst-inside) (r .apart))
 
-  pub runnable : (left plan arrivals : List ℕ) → left ≡ start → length plan ≡ n * last → length arrivals ≡ length src → Runnable (traffic n dst due) left plan arrivals
-  runnable left plan arrivals e p a = rw e (
+  pub runnable : {left : List ℕ} (plan arrivals : List ℕ) → left ≡ start → length plan ≡ n * last → length arrivals ≡ length src → Runnable (traffic n dst due) left plan arrivals
+  runnable plan arrivals e p a = rw e (
       record {
         ready = record {
           ring = on-ring;
@@ -123,13 +123,13 @@ module _ (n : ℕ) (src dst due : List ℕ) (k : Tabled n src dst due) (good : j
   plan-room = ap length its-plan ∙ plan-length (traffic n dst due) start last ∙ mul-comm last n
 
   module _ (plan arrivals : List ℕ) where
-    pub short-plan : (r : Answer) → r ≡ Refused (refuse 7 0 0) → length plan < n * last → GoodPlanned n rows plan arrivals r plan arrivals
+    pub short-plan : {r : Answer} → r ≡ Refused (refuse 7 0 0) → length plan < n * last → GoodPlanned n rows plan arrivals r plan arrivals
     unfolding answerToRows areaAfter
-    short-plan r e h = rw e (record { answers = rw (its-last, lt-ltb (length plan) (n * last) h); fills-plan = refl; fills-arrivals = refl })
+    short-plan e h = rw e (record { answers = rw (its-last, lt-ltb (length plan) (n * last) h); fills-plan = refl; fills-arrivals = refl })
 
-    pub short-arrivals : (r : Answer) → r ≡ Refused (refuse 8 0 0) → n * last ≤ length plan → length arrivals < length src → GoodPlanned n rows plan arrivals r plan arrivals
+    pub short-arrivals : {r : Answer} → r ≡ Refused (refuse 8 0 0) → n * last ≤ length plan → length arrivals < length src → GoodPlanned n rows plan arrivals r plan arrivals
     unfolding answerToRows areaAfter
-    short-arrivals r e p h =
+    short-arrivals e p h =
         rw e (record { answers = rw (its-last, le-ltb (length plan) (n * last) p, rows-long src dst due, lt-ltb (length arrivals) (length src) h); fills-plan = refl; fills-arrivals = refl })
 
     its-answer : n * last ≤ length plan → length src ≤ length arrivals → answerToRows n rows (length plan) (length arrivals) ≡ answerToRun (traffic n dst due) start (stopOf (traffic n dst due) start last)
@@ -153,9 +153,9 @@ module _ (n : ℕ) (src dst due : List ℕ) (k : Tabled n src dst due) (good : j
         }
 
     -- the same, where the largest due slot is what was found
-    pub planned-with : (g : ℕ) → g ≡ last → (left part stamps : List ℕ) (r : Answer) → left ≡ start → n * g ≤ length plan → length src ≤ length arrivals
-        → RunPlanned (traffic n dst due) left (length (take (n * g) plan)) r part stamps
+    pub planned-with : {g : ℕ} → g ≡ last → {left part stamps : List ℕ} {r : Answer} → n * g ≤ length plan → length src ≤ length arrivals
+        → RunPlanned (traffic n dst due) left (length (take (n * g) plan)) r part stamps → left ≡ start
         → GoodPlanned n rows plan arrivals r (part ++ drop (n * g) plan) (stamps ++ drop (length src) arrivals)
-    planned-with g e left part stamps r l p a run =
+    planned-with {g} e {left} {part} {stamps} {r} p a run l =
         let room : length (take (n * g) plan) ≡ n * g = length-take-le (n * g) plan p in
         rw e (planned left part stamps r l (rw e at p) a (rw (room, e) at run))

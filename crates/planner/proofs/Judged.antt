@@ -2,6 +2,7 @@
 --     judge-nodes, judge-many, judge-each      what judging comes to: by the nodes, by the number of rows, by the rows
 --     turned-away                              a refusal before 7: the areas are left as they were
 --     let-through                              a well-formed table
+--     first-bad, none-bad                      both, for the rows of three columns
 -- Assumes nothing.
 use mathlib.Core.Path.{_≡_, refl, _∙_, sym}
 use Prim.Native.Nat.{ℕ, _≤_, _<_}
@@ -16,9 +17,11 @@ use Rattle.lists.proofs.Build.{build-ext}
 use Rattle.table.specs.declared.Row.{Row}
 use Rattle.table.specs.declared.Columns.{Columns}
 use Rattle.table.specs.declared.Refusal.{Refusal}
+use Rattle.table.specs.declared.Verdict.{Verdict}
 use Rattle.table.specs.declared.Verdict.the-variants as verdict
 use Rattle.table.specs.Table.{judge, judgeRows, WellFormed, refuse}
 use Rattle.table.specs.Steps.{listed, rowsOf}
+use Rattle.table.proofs.Judging.{rows-long, judged-early}
 use Rattle.planner.specs.declared.Answer.{Answer}
 use Rattle.planner.specs.declared.Answer.the-variants.{Refused}
 use Rattle.planner.specs.Planner.{Planned, theAnswer, afterVerdict, areaAfter}
@@ -42,15 +45,29 @@ module _ (n : ℕ) (rows : List Row) where
   judge-each l m h = rw (le-ltb n 2 l, le-ltb 32 n m, le-ltb 512 (length rows) h)
 
   module _ (plan arrivals : List ℕ) where
-    pub turned-away : (r : Refusal) → judge n rows ≡ verdict.Refused r → r .number < 7 → (answer : Answer) → answer ≡ Refused r → Planned n rows plan arrivals answer plan arrivals
+    pub turned-away : {r : Refusal} → judge n rows ≡ verdict.Refused r → r .number < 7 → {answer : Answer} → answer ≡ Refused r → Planned n rows plan arrivals answer plan arrivals
     unfolding theAnswer afterVerdict areaAfter
-    turned-away r e early answer is =
+    turned-away {r} e early is =
         rw is (record { answers = rw e; fills-plan = rw (ne-eqb (r .number) 9 (omega arith)); fills-arrivals = rw (ne-eqb (r .number) 9 (omega arith)) })
 
-    pub let-through : judge n rows ≡ verdict.Good → (answer : Answer) (plan′ arrivals′ : List ℕ) → GoodPlanned n rows plan arrivals answer plan′ arrivals′ → Planned n rows plan arrivals answer plan′ arrivals′
+    pub let-through : judge n rows ≡ verdict.Good → {answer : Answer} {plan′ arrivals′ : List ℕ} → GoodPlanned n rows plan arrivals answer plan′ arrivals′ → Planned n rows plan arrivals answer plan′ arrivals′
     unfolding theAnswer afterVerdict
-    let-through e answer plan′ arrivals′ p =
+    let-through e p =
         record { answers = p .answers ∙ rw e; fills-plan = p .fills-plan; fills-arrivals = p .fills-arrivals }
+
+-- The rows of three columns were judged.
+module _ {n : ℕ} {src dst due : List ℕ} (k : Tabled n src dst due) {v : Verdict} (judged : v ≡ judgeRows n (rowsOf src dst due) 0) where
+  abbrev rows : List Row
+  rows = rowsOf src dst due
+
+  whole : judge n rows ≡ v
+  whole = judge-each n rows (k .least) (k .most) (rw (rows-long src dst due) (k .same .few)) ∙ sym judged
+
+  pub first-bad : {plan arrivals : List ℕ} {r : Refusal} → v ≡ verdict.Refused r → Planned n rows plan arrivals (Refused r) plan arrivals
+  first-bad {plan} {arrivals} e = turned-away n rows plan arrivals (whole ∙ e) (judged-early n rows 0 _ (sym judged ∙ e)) refl
+
+  pub none-bad : {plan arrivals : List ℕ} {answer : Answer} {plan′ arrivals′ : List ℕ} → v ≡ verdict.Good → GoodPlanned n rows plan arrivals answer plan′ arrivals′ → Planned n rows plan arrivals answer plan′ arrivals′
+  none-bad {plan} {arrivals} e p = let-through n rows plan arrivals (whole ∙ e) p
 
 -- the rows of the columns' fronts
 pub listed-fronts : (count : ℕ) (c : Columns) → count ≤ length (c .src) → listed count c ≡ rowsOf (take count (c .src)) (take count (c .dst)) (take count (c .due))

@@ -61,11 +61,11 @@ module _ (n : ℕ) (rows : List Row) (well : WellFormed n rows) where
   all-good = rw (rows-of-columns rows) (sound n rows well .each)
 
   its-links : distances n rows ≡ build (length (sources rows)) (λ i. distance n (getD (sources rows) i 0) (getD (destinations rows) i 0))
-  its-links = ap (distances n) (sym (rows-of-columns rows)) ∙ its-start n (sources rows) (destinations rows) (dues rows) tabled all-good
+  its-links = ap (distances n) (sym (rows-of-columns rows)) ∙ its-start tabled all-good
 
   table-on-ring : OnRing (trafficOf n rows) (distances n rows)
   table-on-ring =
-      rw its-links (on-ring n (sources rows) (destinations rows) (dues rows) tabled all-good)
+      rw its-links (on-ring tabled all-good)
 
   due-in-time : (i : ℕ) → i < length (distances n rows) → getD (dues rows) i 0 ≤ lastDue rows
   unfolding lastDue
@@ -197,7 +197,7 @@ last-above-zero n rows well some =
     there = omega (arith, distances-long n rows)
 
     going : AllUnderWay start
-    going = rw (its-links n rows well) (under-way n (sources rows) (destinations rows) (dues rows) (tabled n rows well) (all-good n rows well))
+    going = rw (its-links n rows well) (under-way (tabled n rows well) (all-good n rows well))
 
     due-later : 0 < lastDue rows
     due-later = omega (arith, good-rows n rows 0 (sound n rows well .each) 0 some .due-some, first-due rows, at-most-largest (dues rows) 0)

@@ -87,7 +87,13 @@ module _ (text : List ℕ) (at : ℕ) (s : RowSeen) (so : s ≡ rowSeen text at)
           let good : RowGood from = record { first = e; second = f; third = g } in
           let stands : from ≡ rowText (rowAt from) ++ pastRow from = row-stands from good in
           let long : length from ≡ length (rowText (rowAt from)) + length (pastRow from) = ap length stands ∙ length-append (rowText (rowAt from)) (pastRow from) in
-          record { good = good; row = row-is; inside = omega (arith, length-drop at text); rest = rw place (sym (drop-drop (length (rowText (rowAt from))) at text) ∙ ap (drop (length (rowText (rowAt from)))) stands ∙ drop-append-seam (rowText (rowAt from)) (pastRow from)) }
+          let past : drop (length (rowText (rowAt from))) from ≡ pastRow from = ap (drop (length (rowText (rowAt from)))) stands ∙ drop-append-seam (rowText (rowAt from)) (pastRow from) in
+          record {
+            good = good;
+            row = row-is;
+            inside = omega (arith, length-drop at text);
+            rest = rw place (sym (drop-drop (length (rowText (rowAt from))) at text) ∙ past);
+          }
 
 -- the text behind i rows
 pub pastRows : ℕ → List ℕ → List ℕ
@@ -113,7 +119,9 @@ rowsAt-suc (suc n) text = ap {B = List Row} (λ l. rowAt text ∷ l) (rowsAt-suc
 stored : (f : Row → ℕ) (col : List ℕ) (i : ℕ) (text : List ℕ) (v : ℕ) → i < 512 → v ≡ f (rowAt (pastRows i text)) → col ≡ column (map f (rowsAt i text)) → set col i v ≡ column (map f (rowsAt (i + 1) text))
 stored f col i text v h e so =
     let one : rowsAt (i + 1) text ≡ rowsAt i text ++ (rowAt (pastRows i text) ∷ []) = ap (λ (k : ℕ). rowsAt k text) (add-one i) ∙ rowsAt-suc i text in
-    ap (λ (l : List ℕ). set l i v) so ∙ column-more (map f (rowsAt i text)) i v (length-map (rowsAt i text) f ∙ rowsAt-length i text) h ∙ ap column (ap (λ (x : ℕ). map f (rowsAt i text) ++ (x ∷ [])) e ∙ sym (ap (map f) one ∙ map-last f (rowsAt i text) (rowAt (pastRows i text))))
+    let all : map f (rowsAt i text) ++ (v ∷ []) ≡ map f (rowsAt (i + 1) text) =
+    ap (λ (x : ℕ). map f (rowsAt i text) ++ (x ∷ [])) e ∙ sym (ap (map f) one ∙ map-last f (rowsAt i text) (rowAt (pastRows i text))) in
+    ap (λ (l : List ℕ). set l i v) so ∙ column-more (map f (rowsAt i text)) i v (length-map (rowsAt i text) f ∙ rowsAt-length i text) h ∙ ap column all
 
 pub record Loaded (text : List ℕ) (from rows : ℕ) (src dst due : List ℕ) (at line i : ℕ) : Type 0 where
   pub inside : at ≤ length text
@@ -129,7 +137,16 @@ pub none-loaded : (text : List ℕ) (from rows : ℕ) (src dst due : List ℕ) �
 unfolding pastRows rowsAt sources destinations dues
 none-loaded text from rows src dst due h a b d =
     let all : rows - 0 ≡ rows = omega arith in
-    record { inside = h; few = omega arith; counted = refl; rest = refl; judged = rw all; srcs = a ∙ column-none; dsts = b ∙ column-none; due-slots = d ∙ column-none }
+    record {
+      inside = h;
+      few = omega arith;
+      counted = refl;
+      rest = refl;
+      judged = rw all;
+      srcs = a ∙ column-none;
+      dsts = b ∙ column-none;
+      due-slots = d ∙ column-none;
+    }
 
 module _ {text : List ℕ} {from rows : ℕ} {src dst due : List ℕ} {at line i : ℕ} (k : Loaded text from rows src dst due at line i) where
   module _ (more : i < rows) where
@@ -140,7 +157,16 @@ module _ {text : List ℕ} {from rows : ℕ} {src dst due : List ℕ} {at line i
     unfolding wrongLine sources destinations dues
     more-loaded r n few p =
         let here : r ≡ rowAt (pastRows i (drop from text)) = p .row ∙ ap rowAt (k .rest) in
-        record { inside = p .inside; few = omega arith; counted = omega (arith, k .counted); rest = p .rest ∙ ap pastRow (k .rest) ∙ sym (pastRows-more i (drop from text)) ∙ rw (← add-one i); judged = k .judged ∙ rw (left-is, wrong-none (drop at text) line (p .good), ← p .rest); srcs = stored (λ q. q .src) src i (drop from text) (r .src) (omega arith) (ap (λ (q : Row). q .src) here) (k .srcs); dsts = stored (λ q. q .dst) dst i (drop from text) (r .dst) (omega arith) (ap (λ (q : Row). q .dst) here) (k .dsts); due-slots = stored (λ q. q .due) due i (drop from text) (r .due) (omega arith) (ap (λ (q : Row). q .due) here) (k .due-slots) }
+        record {
+          inside = p .inside;
+          few = omega arith;
+          counted = omega (arith, k .counted);
+          rest = p .rest ∙ ap pastRow (k .rest) ∙ sym (pastRows-more i (drop from text)) ∙ rw (← add-one i);
+          judged = k .judged ∙ rw (left-is, wrong-none (drop at text) line (p .good), ← p .rest);
+          srcs = stored (λ q. q .src) src i (drop from text) (r .src) (omega arith) (ap (λ (q : Row). q .src) here) (k .srcs);
+          dsts = stored (λ q. q .dst) dst i (drop from text) (r .dst) (omega arith) (ap (λ (q : Row). q .dst) here) (k .dsts);
+          due-slots = stored (λ q. q .due) due i (drop from text) (r .due) (omega arith) (ap (λ (q : Row). q .due) here) (k .due-slots);
+        }
 
     pub stopped-at : (p : ℕ) → ((l : ℕ) → wrongInRow (drop at text) l ≡ l + p) → RowsTaken rows (drop from text) (line + p) src dst due
     unfolding wrongLine

@@ -13,8 +13,8 @@ use Rattle.table.specs.declared.Columns.{Columns}
 use Rattle.table.specs.declared.Refusal.{Refusal}
 use Rattle.table.specs.declared.Verdict.{Verdict}
 use Rattle.table.specs.declared.Verdict.the-variants as verdict
-use Rattle.table.specs.Table.{judge, WellFormed, destinations, dues, distances, lastDue}
-use Rattle.table.specs.Steps.{sources, listed}
+use Rattle.table.specs.Table.{judge, WellFormed, dues, distances, lastDue}
+use Rattle.table.specs.Steps.{listed}
 use Rattle.table.proofs.Rows.{length-listed}
 use Rattle.table.proofs.Judging.{its-dues}
 use Rattle.run.proofs.Walking.{plan-length}
@@ -50,7 +50,7 @@ module _ (n : ℕ) (rows : List Row) (s : Summary) (is : theAnswer n rows 32768 
 
   pub due-soon : lastDue rows ≤ 1024
   unfolding lastDue
-  due-soon = soon n (sources rows) (destinations rows) (dues rows) (tabled n rows well) (all-good n rows well)
+  due-soon = soon (tabled n rows well) (all-good n rows well)
 
   pub plan-long : length (thePlan n rows) ≡ n * lastDue rows
   unfolding thePlan
@@ -71,84 +71,97 @@ table-most n rows = go (theAnswer n rows 32768 512) refl
         accepted-most (s .last .0) (theArrivals n rows) n (lastDue rows) (thePlan n rows) (omega (arith, arrivals-each n rows s e, k .few)) (k .most) (due-soon n rows s e)
     go (Refused r) e = omega (arith, verdict-most r)
 
--- As `respond_table` finds it: the rows by columns, and the areas after planning.
-module _ (n count : ℕ) (c : Columns) (plan arrivals : List ℕ) (plan-all : length plan ≡ 32768) (arrivals-all : length arrivals ≡ 512) where
+-- As `respond_table` finds it: the rows by columns, the areas that it lends, and what they hold after planning.
+pub record Answered (n count : ℕ) (c : Columns) (r : Answer) (plan′ arrivals′ : List ℕ) : Type 0 where
+  pub plan : List ℕ
+  pub arrivals : List ℕ
+  pub plan-all : length plan ≡ 32768
+  pub arrivals-all : length arrivals ≡ 512
+  pub out : Planned n (listed count c) plan arrivals r plan′ arrivals′
+  pub src-all : length (c .src) ≡ 512
+  pub dst-all : length (c .dst) ≡ 512
+  pub due-all : length (c .due) ≡ 512
+
+module _ {n count : ℕ} {c : Columns} {r : Answer} {plan′ arrivals′ : List ℕ} (k : Answered n count c r plan′ arrivals′) where
   abbrev table : List Row
   table = listed count c
 
-  module _ (r : Answer) (plan′ arrivals′ : List ℕ) (out : Planned n table plan arrivals r plan′ arrivals′) where
-    its-answer : theAnswer n table 32768 512 ≡ r
-    its-answer = sym (out .answers ∙ rw (plan-all, arrivals-all))
+  its-answer : theAnswer n table 32768 512 ≡ r
+  its-answer = sym (k .out .answers ∙ rw (k .plan-all, k .arrivals-all))
 
-    pub refused-is : (x : Refusal) → r ≡ Refused x → tableText n table ≡ verdictLines x
-    unfolding tableText answerText
-    refused-is x e = rw (its-answer, e)
+  pub refused-is : {x : Refusal} → r ≡ Refused x → tableText n table ≡ verdictLines x
+  unfolding tableText answerText
+  refused-is e = rw (its-answer, e)
 
-    module _ (s : Summary) (e : r ≡ Accepted s) where
-      is : theAnswer n table 32768 512 ≡ Accepted s
-      is = its-answer ∙ e
+  module _ {s : Summary} (e : r ≡ Accepted s) where
+    is : theAnswer n table 32768 512 ≡ Accepted s
+    is = its-answer ∙ e
 
-      size : Sound n table
-      size = its-size n table s is
+    size : Sound n table
+    size = its-size n table s is
 
-      pub few-rows : count ≤ 512
-      few-rows = omega (arith, size .few, length-listed count c)
+    pub few-rows : count ≤ 512
+    few-rows = omega (arith, size .few, length-listed count c)
 
-      plan-there : plan′ ≡ thePlan n table ++ drop (length (thePlan n table)) plan
-      unfolding areaAfter
-      plan-there = out .fills-plan ∙ rw e
+    plan-there : plan′ ≡ thePlan n table ++ drop (length (thePlan n table)) (k .plan)
+    unfolding areaAfter
+    plan-there = k .out .fills-plan ∙ rw e
 
-      arrivals-there : arrivals′ ≡ theArrivals n table ++ drop (length (theArrivals n table)) arrivals
-      unfolding areaAfter
-      arrivals-there = out .fills-arrivals ∙ rw e
+    arrivals-there : arrivals′ ≡ theArrivals n table ++ drop (length (theArrivals n table)) (k .arrivals)
+    unfolding areaAfter
+    arrivals-there = k .out .fills-arrivals ∙ rw e
 
-      the-arrivals : take count arrivals′ ≡ theArrivals n table
-      the-arrivals = ap (take count) arrivals-there ∙ take-at (theArrivals n table) _ count (arrivals-each n table s is ∙ length-listed count c)
+    the-arrivals : take count arrivals′ ≡ theArrivals n table
+    the-arrivals = ap (take count) arrivals-there ∙ take-at (theArrivals n table) _ count (arrivals-each n table s is ∙ length-listed count c)
 
-      pub arrivals-fit : count ≤ length arrivals′
-      arrivals-fit = omega (arith, ap length arrivals-there, length-append (theArrivals n table) (drop (length (theArrivals n table)) arrivals), arrivals-each n table s is, length-listed count c)
+    pub arrivals-fit : count ≤ length arrivals′
+    arrivals-fit =
+        let parts = length-append (theArrivals n table) (drop (length (theArrivals n table)) (k .arrivals)) in
+        omega (arith, ap length arrivals-there, parts, arrivals-each n table s is, length-listed count c)
 
-      pub arrivals-front : count ≡ length (take count arrivals′)
-      arrivals-front = sym (length-take-le count arrivals′ arrivals-fit)
+    pub arrivals-front : count ≡ length (take count arrivals′)
+    arrivals-front = sym (length-take-le count arrivals′ arrivals-fit)
 
-      module _ (src-all : length (c .src) ≡ 512) (dst-all : length (c .dst) ≡ 512) (due-all : length (c .due) ≡ 512) where
-        its-due : dues table ≡ take count (c .due)
-        its-due =
-            let same = fronts-tabled n count c (size .least) (size .most) few-rows src-all dst-all due-all .same in
-            ap dues (listed-fronts count c (omega (arith, few-rows, src-all))) ∙ its-dues (take count (c .src)) (take count (c .dst)) (take count (c .due)) same
+    its-due : dues table ≡ take count (c .due)
+    its-due =
+        let same = fronts-tabled n count c (size .least) (size .most) few-rows (k .src-all) (k .dst-all) (k .due-all) .same in
+        ap dues (listed-fronts count c (omega (arith, few-rows, k .src-all))) ∙ its-dues (take count (c .src)) (take count (c .dst)) (take count (c .due)) same
 
-        pub due-fits : count ≤ length (c .due)
-        due-fits = omega (arith, few-rows)
+    pub due-fits : count ≤ length (c .due)
+    due-fits = omega (arith, few-rows, k .due-all)
 
-        pub due-front : count ≡ length (take count (c .due))
-        due-front = sym (length-take-le count (c .due) due-fits)
+    pub due-front : count ≡ length (take count (c .due))
+    due-front = sym (length-take-le count (c .due) due-fits)
 
-        module _ (slots : ℕ) (found : slots ≡ largest (take count (c .due))) where
-          last-is : slots ≡ lastDue table
-          unfolding lastDue
-          last-is = found ∙ ap largest (sym its-due)
+    -- the largest due slot of the rows, as it was computed
+    module _ {slots : ℕ} (found : slots ≡ largest (take count (c .due))) where
+      last-is : slots ≡ lastDue table
+      unfolding lastDue
+      last-is = found ∙ ap largest (sym its-due)
 
-          pub entries-small : n * slots ≤ 32768
-          entries-small = rw last-is (mul-le-mul (size .most) (due-soon n table s is))
+      pub entries-small : n * slots ≤ 32768
+      entries-small = rw last-is (mul-le-mul (size .most) (due-soon n table s is))
 
-          pub plan-fits : n * slots ≤ length plan′
-          plan-fits = rw last-is (omega (arith, ap length plan-there, length-append (thePlan n table) (drop (length (thePlan n table)) plan), plan-long n table s is))
+      pub plan-fits : n * slots ≤ length plan′
+      plan-fits =
+          let parts = length-append (thePlan n table) (drop (length (thePlan n table)) (k .plan)) in
+          rw last-is (omega (arith, ap length plan-there, parts, plan-long n table s is))
 
-          pub plan-front : n * slots ≡ length (take (n * slots) plan′)
-          plan-front = sym (length-take-le (n * slots) plan′ plan-fits)
+      pub plan-front : n * slots ≡ length (take (n * slots) plan′)
+      plan-front = sym (length-take-le (n * slots) plan′ plan-fits)
 
-          the-plan : take (n * slots) plan′ ≡ thePlan n table
-          the-plan = ap (take (n * slots)) plan-there ∙ take-at (thePlan n table) _ (n * slots) (plan-long n table s is ∙ rw last-is)
+      the-plan : take (n * slots) plan′ ≡ thePlan n table
+      the-plan = ap (take (n * slots)) plan-there ∙ take-at (thePlan n table) _ (n * slots) (plan-long n table s is ∙ rw last-is)
 
-          pub slotted : Slotted n slots (take (n * slots) plan′)
-          slotted = record { some = omega (arith, size .least); most = size .most; soon = rw last-is (due-soon n table s is); room = sym plan-front }
+      pub slotted : Slotted n slots (take (n * slots) plan′)
+      slotted = record { some = omega (arith, size .least); most = size .most; soon = rw last-is (due-soon n table s is); room = sym plan-front }
 
-          pub accepted-is : tableText n table ≡ acceptedText (s .last .0) (take count arrivals′) n slots (take (n * slots) plan′)
-          unfolding tableText answerText
-          accepted-is = rw (is, the-arrivals, the-plan, last-is)
+      pub accepted-is : tableText n table ≡ acceptedText (s .last .0) (take count arrivals′) n slots (take (n * slots) plan′)
+      unfolding tableText answerText
+      accepted-is = rw (is, the-arrivals, the-plan, last-is)
 
-          pub accepted-fits : (area : List ℕ) → 212992 ≤ length area → Room area 0 (acceptedText (s .last .0) (take count arrivals′) n slots (take (n * slots) plan′))
-          accepted-fits area h = omega (arith, table-most n table, ap length accepted-is)
+      pub accepted-fits : (area : List ℕ) → 212992 ≤ length area → Room area 0 (acceptedText (s .last .0) (take count arrivals′) n slots (take (n * slots) plan′))
+      accepted-fits area h = omega (arith, table-most n table, ap length accepted-is)
 
 pub verdict-fits : (area : List ℕ) (r : Refusal) → 212992 ≤ length area → Room area 0 (verdictLines r)
 verdict-fits area r h = omega (arith, verdict-most r)

@@ -70,5 +70,10 @@ cases =
 
 -- Every text comes out so.
 pub printed : map (λ (c : Case). outputOf (c .text)) cases ≡ map (λ (c : Case). c .output) cases
-unfolding total largest distance standing rowRefusal judgeRows judge sources destinations dues distances lastDue underWay place slackOf slack isLate lateFrom lateRow better pick slotOf moved stateAt planOf deliveredFrom arrivalsOf anyUnderWay stopFrom stopOf ending thePlan theArrivals quotient summaryOf theSummary answerToRows afterVerdict theAnswer div ofInt width lastDigits numeral line starts digitsAt extended lineValue lineGood lineRest wrongInRow rowAt pastRow wrongLine rowsAt nodesIn rowsIn bodyOf readingOfRows readingOfBody readingOf rowsRead verdictLines arriveLines markBefore parted sendLine sendLines acceptedText answerText tableText readingText outputOf
+unfolding total largest distance standing
+    rowRefusal judgeRows judge sources destinations dues distances lastDue
+    underWay place slackOf slack isLate lateFrom lateRow better pick slotOf moved stateAt planOf deliveredFrom arrivalsOf anyUnderWay stopFrom stopOf
+    ending thePlan theArrivals quotient summaryOf theSummary answerToRows afterVerdict theAnswer div ofInt
+    width lastDigits numeral line starts digitsAt extended lineValue lineGood lineRest wrongInRow rowAt pastRow wrongLine rowsAt nodesIn rowsIn bodyOf readingOfRows readingOfBody readingOf rowsRead
+    verdictLines arriveLines markBefore parted sendLine sendLines acceptedText answerText tableText readingText outputOf
 printed = refl

@@ -1,5 +1,6 @@
 pub mod Putting
 pub mod Lines
+mod Listing
 mod Sending
 mod Verdict
 pub mod Sizes

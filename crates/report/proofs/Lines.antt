@@ -64,7 +64,7 @@ module _ {n slots : ℕ} {plan : List ℕ} (k : Slotted n slots plan) (t : ℕ) 
   slot-small h = omega (arith, slot-ends h, k .room, mul-le-mul (k .most) (k .soon))
 
   -- the entries of the slot, as the part of the plan from its base to its end
-  abbrev entries : List ℕ
+  abbrev pub entries : List ℕ
   entries = take (t * n + n - t * n) (drop (t * n) plan)
 
   pub slot-some : t < slots → 1 ≤ length entries

@@ -36,8 +36,8 @@ module _ {area₀ : List ℕ} {from : ℕ} {whole area : List ℕ} {at : ℕ} {r
     pub fits : Room area at piece
     fits = omega (arith, rest-room, ap length e, length-append piece more)
 
-    pub put-on : (next : ℕ) (area′ : List ℕ) → Put area at piece next area′ → Putting area₀ from whole area′ next more
-    put-on next area′ p =
+    pub put-on : {next : ℕ} {area′ : List ℕ} → Put area at piece next area′ → Putting area₀ from whole area′ next more
+    put-on p =
         record {
           front = k .front ++ piece;
           room = k .room;
@@ -57,5 +57,5 @@ all-put {area₀} {from} {whole} {area} {at} {rest} k e =
     record { place = k .place ∙ ap (λ (l : List ℕ). from + length l) same; so = k .so ∙ ap (pasted area₀ from) same }
 
 -- the piece that is left is the last one
-pub put-last : {area₀ : List ℕ} {from : ℕ} {whole area : List ℕ} {at : ℕ} {rest : List ℕ} → Putting area₀ from whole area at rest → (next : ℕ) (area′ : List ℕ) → Put area at rest next area′ → Put area₀ from whole next area′
-put-last {rest = rest} k next area′ p = all-put (put-on k rest [] (sym (append-nil rest)) next area′ p) refl
+pub put-last : {area₀ : List ℕ} {from : ℕ} {whole area : List ℕ} {at : ℕ} {rest : List ℕ} → Putting area₀ from whole area at rest → {next : ℕ} {area′ : List ℕ} → Put area at rest next area′ → Put area₀ from whole next area′
+put-last {rest = rest} k p = all-put (put-on k rest [] (sym (append-nil rest)) p) refl

@@ -41,18 +41,18 @@ output-fits text = go (readingOf text 512)
     go (Read h) = table-most (h .nodes) (rowsRead text 512)
     go (NotRead r) = omega (arith, verdict-most r)
 
-module _ (text area : List ℕ) (next : ℕ) (area′ : List ℕ) where
+module _ (text : List ℕ) {area : List ℕ} {next : ℕ} {area′ : List ℕ} where
   reported : (bytes : List ℕ) → outputOf text ≡ bytes → Put area 0 bytes next area′ → Reported text area next area′
   unfolding pasted
   reported bytes e p =
       let none : 0 + length bytes ≡ length bytes = omega arith in
       record { counts = p .place ∙ rw (none, e); fills = p .so ∙ rw (none, e) }
 
-  module _ (reading : Reading) (is : reading ≡ readingOf text 512) where
-    pub not-read : (r : Refusal) → reading ≡ NotRead r → Put area 0 (verdictLines r) next area′ → Reported text area next area′
+  module _ {reading : Reading} (is : reading ≡ readingOf text 512) where
+    pub not-read : {r : Refusal} → reading ≡ NotRead r → Put area 0 (verdictLines r) next area′ → Reported text area next area′
     unfolding outputOf readingText
-    not-read r e p = reported (verdictLines r) (rw (sym is ∙ e)) p
+    not-read {r} e p = reported (verdictLines r) (rw (sym is ∙ e)) p
 
-    pub read : (h : Header) → reading ≡ Read h → (rows : List Row) → rows ≡ rowsRead text 512 → Put area 0 (tableText (h .nodes) rows) next area′ → Reported text area next area′
+    pub read : {h : Header} → reading ≡ Read h → {rows : List Row} → rows ≡ rowsRead text 512 → Put area 0 (tableText (h .nodes) rows) next area′ → Reported text area next area′
     unfolding outputOf readingText
-    read h e rows same p = reported (tableText (h .nodes) rows) (rw (sym is ∙ e, same)) p
+    read {h} e {rows} same p = reported (tableText (h .nodes) rows) (rw (sym is ∙ e, same)) p

@@ -177,6 +177,9 @@ module _ {T : Traffic} {start plan₀ arrivals₀ plan arrivals : List ℕ} {sto
   pub inside : end * T .nodes ≤ length plan
   inside = omega (arith, long, ready .room, split (T .nodes) end (last - end) last (omega (arith, in-time)))
 
+  pub inside-lent : end * T .nodes ≤ length plan₀
+  inside-lent = omega (arith, long, inside)
+
   module _ (some : AllUnderWay start) (on-time : stop .row ≡ 0) where
     done : Delivered T start end
     done i h =

@@ -44,7 +44,9 @@ line-end-requires c κs = c .before .before .before .loop .inv .1
 add-at : tie.Need-add-at Inv-loop μ-loop
 add-at c =
     let l = c .before .before .before .before .loop in
-    omega (arith, room-behind (c .before .before .before .before .before .before .args .text .now) (l .at) _ _ (l .inv .1) (c .line-end .ensures) (sym (c .before .before .line-refusal .ensures) ∙ c .before .if1 .left))
+    let text = c .before .before .before .before .before .before .args .text .now in
+    let good = sym (c .before .before .line-refusal .ensures) ∙ c .before .if1 .left in
+    omega (arith, room-behind text (l .at) _ _ (l .inv .1) (c .line-end .ensures) good)
 
 add-i : tie.Need-add-i Inv-loop μ-loop
 add-i c = search needs
@@ -56,7 +58,10 @@ loop-again : tie.Need-loop-again Inv-loop μ-loop
 loop-again c =
     let l = c .before .before .before .before .loop in
     let text = c .before .before .before .before .before .before .args .text .now in
-    (omega arith, room-behind text (l .at) _ _ (l .inv .1) (c .line-end .ensures) (sym (c .before .before .line-refusal .ensures) ∙ c .before .if1 .left), l .inv .2 ∙ lines-good keys (l .i) (drop (l .at) text) (omega (arith, keys-all)) (sym (c .before .before .line-refusal .ensures) ∙ c .before .if1 .left) ∙ ap (linesVerdict (drop (l .i + 1) keys) (l .i + 1)) (behind-at text (l .at) _ (c .line-end .ensures)))
+    let good = sym (c .before .before .line-refusal .ensures) ∙ c .before .if1 .left in
+    let next = lines-good keys (l .i) (drop (l .at) text) (omega (arith, keys-all)) good in
+    let behind = behind-at text (l .at) _ (c .line-end .ensures) in
+    (omega arith, room-behind text (l .at) _ _ (l .inv .1) (c .line-end .ensures) good, l .inv .2 ∙ next ∙ ap (linesVerdict (drop (l .i + 1) keys) (l .i + 1)) behind)
 
 add-refused-2 : tie.Need-add-refused-2 Inv-loop μ-loop
 add-refused-2 c = search needs

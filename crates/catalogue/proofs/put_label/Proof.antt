@@ -15,7 +15,7 @@ not-written-requires c κs = search needs
 returns : tie.Need-returns
 returns c =
     let a = c .before .before .before .before .args in
-    without-string (a .text .now) _ _ (a .area .now) (c .before .before .before .before .pre) (no-field (a .field) (λ i l h e. absurd (omega (arith, c .before .if1 .taken)))) (c .not-written .ensures)
+    without-string (a .text .now) _ _ (a .area .now) (c .before .before .before .before .pre) (no-field (a .field) (λ l h. omega (arith, c .before .if1 .taken))) (c .not-written .ensures)
 
 not-written-requires-2 : tie.Need-not-written-requires-2
 not-written-requires-2 c κs = search needs
@@ -23,7 +23,7 @@ not-written-requires-2 c κs = search needs
 returns-2 : tie.Need-returns-2
 returns-2 c =
     let a = c .before .before .before .before .before .args in
-    without-string (a .text .now) _ _ (a .area .now) (c .before .before .before .before .before .pre) (no-field (a .field) (λ i l h e. absurd (omega (arith, c .before .if2 .taken)))) (c .not-written2 .ensures)
+    without-string (a .text .now) _ _ (a .area .now) (c .before .before .before .before .before .pre) (no-field (a .field) (λ l h. omega (arith, c .before .if2 .taken))) (c .not-written2 .ensures)
 
 add-string-of : tie.Need-add-string-of
 add-string-of c = search needs
@@ -51,10 +51,13 @@ same-length c = search needs
 
 returns-3 : tie.Need-returns-3
 returns-3 c =
-    let a = c .before .before .before .before .before .before .before .before .before .before .args in
-    let some : 1 ≤ a .field = omega arith in
-    let few : a .field ≤ 6 = omega arith in
-    with-string (a .text .now) _ _ (a .area .now) (c .before .before .before .before .before .before .before .before .before .before .pre) (is-field (a .field) some few) (c .before .before .before .before .before .string-of .ensures .holds ∙ label-string (a .text .now) (a .field) some few) (c .before .before .put-string .ensures)
+    let s = c .before .before .before .before .before .before .before .before .before .before in
+    let text = s .args .text .now in
+    let field = s .args .field in
+    let some : 1 ≤ field = omega arith in
+    let few : field ≤ 6 = omega arith in
+    let string = c .before .before .before .before .before .string-of .ensures .holds ∙ label-string text field some few in
+    with-string text _ _ (s .args .area .now) (s .pre) (is-field field some few) string (c .before .before .put-string .ensures)
 
 pub put-label-spec : {M : Type 1} → statement M
 put-label-spec =

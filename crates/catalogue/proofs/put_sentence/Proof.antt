@@ -45,9 +45,13 @@ same-length c = search needs
 
 returns-2 : tie.Need-returns-2
 returns-2 c =
-    let a = c .before .before .before .before .before .before .before .before .before .before .before .before .args in
+    let s = c .before .before .before .before .before .before .before .before .before .before .before .before in
+    let a = s .args in
+    let text = a .text .now in
     let place = c .before .before .before .before .before .before .before .before .before .place-of in
-    with-string (a .text .now) _ _ (a .area .now) (c .before .before .before .before .before .before .before .before .before .before .before .before .pre) (in-list (a .number) numbers (omega (arith, place .ensures))) (sentence-spoken (a .text .now) (a .number) (a .row) (a .slot) (place .result) (c .before .before .before .before .before .before .before .string-of .ensures .holds) (place .ensures) (c .before .before .before .before .before .shown .ensures) (c .before .before .before .before .shown2 .ensures)) (c .before .before .put-spoken .ensures)
+    let string = c .before .before .before .before .before .before .before .string-of .ensures .holds in
+    let said = sentence-spoken text (a .number) (a .row) (a .slot) (place .result) string (place .ensures) (c .before .before .before .before .before .shown .ensures) (c .before .before .before .before .shown2 .ensures) in
+    with-string text _ _ (a .area .now) (s .pre) (in-list (a .number) numbers (omega (arith, place .ensures))) said (c .before .before .put-spoken .ensures)
 
 pub put-sentence-spec : {M : Type 1} → statement M
 put-sentence-spec =

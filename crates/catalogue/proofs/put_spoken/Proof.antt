@@ -39,31 +39,37 @@ put-bytes-requires c κs = search needs
 slice-aggregate-put-item : tie.Need-slice-aggregate-put-item
 slice-aggregate-put-item c = search needs
 
+-- The area is long enough: from here on the three pieces fit.
+fits : (c : tie.Else1) → let a = c .before .before .before .before .before .args in length (spoken (a .string .now) (a .row) (a .slot)) ≤ length (a .area .now)
+fits c =
+    let a = c .before .before .before .before .before .args in
+    omega (arith, spoken-long (a .string .now) (a .row) (a .slot), c .before .before .width-of .ensures, c .before .width-of2 .ensures)
+
 put-item-requires : tie.Need-put-item-requires
 put-item-requires c κs =
-    let a = c .before .before .before .before .before .before .before .before .before .before .before .args in
-    let fits : length (spoken (a .string .now) (a .row) (a .slot)) ≤ length (a .area .now) = omega (arith, spoken-long (a .string .now) (a .row) (a .slot), c .before .before .before .before .before .before .before .before .width-of .ensures, c .before .before .before .before .before .before .before .width-of2 .ensures) in
+    let s = c .before .before .before .before .before .before in
+    let a = s .before .before .before .before .before .args in
     let one = c .before .before .before .before .put-bytes in
-    (row-fits (a .string .now) (a .area .now) (a .row) (a .slot) fits (one .result) (one .last .0) (one .ensures), omega arith)
+    (row-fits (a .string .now) (a .area .now) (a .row) (a .slot) (fits s) (one .result) (one .last .0) (one .ensures), omega arith)
 
 put-numeral-requires : tie.Need-put-numeral-requires
 put-numeral-requires c κs =
-    let a = c .before .before .before .before .before .before .before .before .before .before .before .before .before .before .before .args in
-    let fits : length (spoken (a .string .now) (a .row) (a .slot)) ≤ length (a .area .now) = omega (arith, spoken-long (a .string .now) (a .row) (a .slot), c .before .before .before .before .before .before .before .before .before .before .before .before .width-of .ensures, c .before .before .before .before .before .before .before .before .before .before .before .width-of2 .ensures) in
+    let s = c .before .before .before .before .before .before .before .before .before .before in
+    let a = s .before .before .before .before .before .args in
     let one = c .before .before .before .before .before .before .before .before .put-bytes in
     let two = c .before .before .before .put-item in
-    slot-fits (a .string .now) (a .area .now) (a .row) (a .slot) fits (one .result) (one .last .0) (one .ensures) (two .result) (two .last .0) (two .ensures)
+    slot-fits (a .string .now) (a .area .now) (a .row) (a .slot) (fits s) (one .result) (one .last .0) (one .ensures) (two .result) (two .last .0) (two .ensures)
 
 same-length : tie.Need-same-length
 same-length c = search needs
 
 returns-2 : tie.Need-returns-2
 returns-2 c =
-    let a = c .before .before .before .before .before .before .before .before .before .before .before .before .before .before .before .before .before .before .args in
-    let fits : length (spoken (a .string .now) (a .row) (a .slot)) ≤ length (a .area .now) = omega (arith, spoken-long (a .string .now) (a .row) (a .slot), c .before .before .before .before .before .before .before .before .before .before .before .before .before .before .before .width-of .ensures, c .before .before .before .before .before .before .before .before .before .before .before .before .before .before .width-of2 .ensures) in
+    let s = c .before .before .before .before .before .before .before .before .before .before .before .before .before in
+    let a = s .before .before .before .before .before .args in
     let one = c .before .before .before .before .before .before .before .before .before .before .before .put-bytes in
     let two = c .before .before .before .before .before .before .put-item in
-    spoken-put (a .string .now) (a .area .now) (a .row) (a .slot) fits (one .result) (one .last .0) (one .ensures) (two .result) (two .last .0) (two .ensures) (omega (arith, c .before .before .before .before .before .before .before .before .before .before .before .before .before .before .before .width-of .ensures, c .before .before .before .before .before .before .before .before .before .before .before .before .before .before .width-of2 .ensures)) (c .before .before .put-numeral .ensures .1)
+    spoken-put (a .string .now) (a .area .now) (a .row) (a .slot) (fits s) (one .result) (one .last .0) (one .ensures) (two .result) (two .last .0) (two .ensures) (omega (arith, s .before .before .width-of .ensures, s .before .width-of2 .ensures)) (c .before .before .put-numeral .ensures .1)
 
 pub put-spoken-spec : {M : Type 1} → statement M
 put-spoken-spec =

@@ -58,16 +58,23 @@ same-length c = search needs
 
 returns : tie.Need-returns
 returns c =
-    let a = c .before .before .before .before .before .before .before .before .before .args in
-    way-ahead (a .up) (a .nodes) (a .row) (a .load .now) (c .before .before .before .before .before .before .before .before .before .pre .0) (c .before .before .before .before .before .before .before .before .before .pre .1) _ _ _ (c .before .before .before .before .before .before .before .lower .ensures) (c .before .before .before .before .before .before .lower2 .ensures) (c .before .before .before .before .if1 .taken) (c .before .before .step-all .ensures)
+    let s = c .before .before .before .before .before .before .before .before .before in
+    let from = c .before .before .before .before .before .before .before .lower .ensures in
+    let to = c .before .before .before .before .before .before .lower2 .ensures in
+    let ahead = c .before .before .before .before .if1 .taken in
+    way-ahead (s .args .up) (s .args .nodes) (s .args .row) (s .args .load .now) (s .pre .0) (s .pre .1) from to ahead (c .before .before .step-all .ensures)
 
 same-length-2 : tie.Need-same-length-2
 same-length-2 c = search needs
 
 returns-2 : tie.Need-returns-2
 returns-2 c =
-    let a = c .before .before .before .before .before .before .before .before .before .before .before .before .before .args in
-    way-round (a .up) (a .nodes) (a .row) (a .load .now) (c .before .before .before .before .before .before .before .before .before .before .before .before .before .pre .0) (c .before .before .before .before .before .before .before .before .before .before .before .before .before .pre .1) _ _ _ _ (c .before .before .before .before .before .before .before .before .before .before .before .lower .ensures) (c .before .before .before .before .before .before .before .before .before .before .lower2 .ensures) (c .before .before .before .before .before .before .before .before .if1 .left) (c .before .before .before .before .before .before .step-all2 .ensures) (c .before .before .step-all3 .ensures)
+    let s = c .before .before .before .before .before .before .before .before .before .before .before .before .before in
+    let from = c .before .before .before .before .before .before .before .before .before .before .before .lower .ensures in
+    let to = c .before .before .before .before .before .before .before .before .before .before .lower2 .ensures in
+    let round = c .before .before .before .before .before .before .before .before .if1 .left in
+    let first = c .before .before .before .before .before .before .step-all2 .ensures in
+    way-round (s .args .up) (s .args .nodes) (s .args .row) (s .args .load .now) (s .pre .0) (s .pre .1) from to round first (c .before .before .step-all3 .ensures)
 
 pub step-way-spec : {M : Type 1} → statement M
 step-way-spec =

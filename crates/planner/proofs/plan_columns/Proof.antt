@@ -4,7 +4,6 @@ use mathlib.Core.Path.{_≡_, sym}
 use native.Mathlib.Omega.{arith}
 use lib.ListN.{length}
 use lib.Seq.{length-take-le}
-use Rattle.table.specs.Table.{refuse}
 use Rattle.table.specs.Steps.{listed}
 use Rattle.table.proofs.Rows.{length-listed}
 use Rattle.planner.proofs.Judged.{judge-few, judge-wide, judge-many, turned-away, listed-fronts, fronts-tabled}
@@ -18,7 +17,7 @@ refusal-requires c κs = search needs
 returns : tie.Need-returns
 returns c =
     let a = c .before .before .before .before .args in
-    turned-away (a .nodes) (listed (a .rows) (a .columns)) (a .plan .now) (a .arrivals .now) (refuse 1 0 0) (judge-few (a .nodes) (listed (a .rows) (a .columns)) (omega arith)) (omega arith) _ (c .refusal .ensures)
+    turned-away (a .nodes) (listed (a .rows) (a .columns)) (a .plan .now) (a .arrivals .now) (judge-few (a .nodes) (listed (a .rows) (a .columns)) (omega arith)) (omega arith) (c .refusal .ensures)
 
 refusal-requires-2 : tie.Need-refusal-requires-2
 refusal-requires-2 c κs = search needs
@@ -26,7 +25,7 @@ refusal-requires-2 c κs = search needs
 returns-2 : tie.Need-returns-2
 returns-2 c =
     let a = c .before .before .before .before .before .args in
-    turned-away (a .nodes) (listed (a .rows) (a .columns)) (a .plan .now) (a .arrivals .now) (refuse 1 0 0) (judge-wide (a .nodes) (listed (a .rows) (a .columns)) (omega arith)) (omega arith) _ (c .refusal2 .ensures)
+    turned-away (a .nodes) (listed (a .rows) (a .columns)) (a .plan .now) (a .arrivals .now) (judge-wide (a .nodes) (listed (a .rows) (a .columns)) (omega arith)) (omega arith) (c .refusal2 .ensures)
 
 refusal-requires-3 : tie.Need-refusal-requires-3
 refusal-requires-3 c κs = search needs
@@ -34,7 +33,7 @@ refusal-requires-3 c κs = search needs
 returns-3 : tie.Need-returns-3
 returns-3 c =
     let a = c .before .before .before .before .before .before .args in
-    turned-away (a .nodes) (listed (a .rows) (a .columns)) (a .plan .now) (a .arrivals .now) (refuse 2 0 0) (judge-many (a .nodes) (listed (a .rows) (a .columns)) (omega arith) (omega arith) (rw (length-listed (a .rows) (a .columns)) (omega arith))) (omega arith) _ (c .refusal3 .ensures)
+    turned-away (a .nodes) (listed (a .rows) (a .columns)) (a .plan .now) (a .arrivals .now) (judge-many (a .nodes) (listed (a .rows) (a .columns)) (omega arith) (omega arith) (rw (length-listed (a .rows) (a .columns)) (omega arith))) (omega arith) (c .refusal3 .ensures)
 
 array-share-prefix-src : tie.Need-array-share-prefix-src
 array-share-prefix-src c =

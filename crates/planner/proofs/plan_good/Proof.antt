@@ -3,13 +3,23 @@
 use mathlib.Core.Path.{_∙_, ap, sym}
 use native.Mathlib.Omega.{arith}
 use Prim.Native.Nat.{_*_}
-use lib.ListN.{length, drop}
+use lib.ListN.{length}
 use lib.Seq.{length-take-le}
-use Rattle.lists.proofs.Fronts.{front-long, front-again, front-fits}
+use Rattle.lists.proofs.Fronts.{Front, front-long, front-again, front-fits, front-as-long}
 use Rattle.planner.proofs.Good.{measuring, room-small, runnable, short-plan, short-arrivals, planned-with}
 use borrow.Author.Needs.{needs}
 use Rattle.planner.proofs.plan_good.Statement.{statement}
 use Rattle.planner.proofs.plan_good.Tie as tie
+
+-- Each row's links were written in the front of the room for them.
+written : (c : tie.After-measure) → Front (length (c .before .before .before .before .before .before .before .before .before .before .before .args .src .now)) (c .before .before .zeros .result) (c .measure .last .1 .1 .1 .0)
+written c =
+    let s = c .before .before .before .before .before .before .before .before .before .before .before in
+    let room = c .before .before .zeros in
+    record {
+      lent = front-long 512 (length (s .args .src .now)) 0 (room .result) (room .ensures) (s .pre .0 .same .few);
+      kept = c .measure .kept .1 .1 .1 .0;
+    }
 
 greatest-requires : tie.Need-greatest-requires
 greatest-requires c κs = search needs
@@ -19,30 +29,26 @@ cast-need c = search needs
 
 mul-need : tie.Need-mul-need
 mul-need c =
-    let a = c .before .before .before .before .before .before .args in
-    let k = c .before .before .before .before .before .before .pre .0 in
-    let good = c .before .before .before .before .before .before .pre .1 in
-    rw (c .greatest .ensures) (omega (arith, room-small (a .nodes) (a .src .now) (a .dst .now) (a .due .now) k good))
+    let s = c .before .before .before .before .before .before in
+    rw (c .greatest .ensures) (omega (arith, room-small (s .pre .0) (s .pre .1)))
 
 refusal-requires : tie.Need-refusal-requires
 refusal-requires c κs = search needs
 
 returns : tie.Need-returns
 returns c =
-    let a = c .before .before .before .before .before .before .before .before .args in
-    let k = c .before .before .before .before .before .before .before .before .pre .0 in
-    let good = c .before .before .before .before .before .before .before .before .pre .1 in
-    short-plan (a .nodes) (a .src .now) (a .dst .now) (a .due .now) k good (a .plan .now) (a .arrivals .now) _ (c .refusal .ensures) (rw (c .before .before .greatest .ensures) at (c .before .if1 .taken))
+    let s = c .before .before .before .before .before .before .before .before in
+    let last = c .before .before .greatest .ensures in
+    short-plan (s .pre .0) (s .pre .1) (s .args .plan .now) (s .args .arrivals .now) (c .refusal .ensures) (rw last at (c .before .if1 .taken))
 
 refusal-requires-2 : tie.Need-refusal-requires-2
 refusal-requires-2 c κs = search needs
 
 returns-2 : tie.Need-returns-2
 returns-2 c =
-    let a = c .before .before .before .before .before .before .before .before .before .args in
-    let k = c .before .before .before .before .before .before .before .before .before .pre .0 in
-    let good = c .before .before .before .before .before .before .before .before .before .pre .1 in
-    short-arrivals (a .nodes) (a .src .now) (a .dst .now) (a .due .now) k good (a .plan .now) (a .arrivals .now) _ (c .refusal2 .ensures) (rw (c .before .before .before .greatest .ensures) at (c .before .before .if1 .left)) (c .before .if2 .taken)
+    let s = c .before .before .before .before .before .before .before .before .before in
+    let last = c .before .before .before .greatest .ensures in
+    short-arrivals (s .pre .0) (s .pre .1) (s .args .plan .now) (s .args .arrivals .now) (c .refusal2 .ensures) (rw last at (c .before .before .if1 .left)) (c .before .if2 .taken)
 
 zeros-requires : tie.Need-zeros-requires
 zeros-requires c κs = search needs
@@ -52,59 +58,39 @@ array-borrow-prefix-left c = search needs
 
 slice-aggregate-measure : tie.Need-slice-aggregate-measure
 slice-aggregate-measure c =
-    let a = c .before .before .before .before .before .before .before .before .before .before .args in
-    let k = c .before .before .before .before .before .before .before .before .before .before .pre .0 in
-    let good = c .before .before .before .before .before .before .before .before .before .before .pre .1 in
-    front-long 512 (length (a .src .now)) 0 _ (c .before .zeros .ensures) (k .same .few)
+    let s = c .before .before .before .before .before .before .before .before .before .before in
+    front-long 512 (length (s .args .src .now)) 0 _ (c .before .zeros .ensures) (s .pre .0 .same .few)
 
 measure-requires : tie.Need-measure-requires
 measure-requires c κs =
-    let a = c .before .before .before .before .before .before .before .before .before .before .args in
-    let k = c .before .before .before .before .before .before .before .before .before .before .pre .0 in
-    let good = c .before .before .before .before .before .before .before .before .before .before .pre .1 in
-    measuring (a .nodes) (a .src .now) (a .dst .now) (a .due .now) k good _ (sym (front-long 512 (length (a .src .now)) 0 _ (c .before .zeros .ensures) (k .same .few)))
+    let s = c .before .before .before .before .before .before .before .before .before .before in
+    let long = front-long 512 (length (s .args .src .now)) 0 _ (c .before .zeros .ensures) (s .pre .0 .same .few) in
+    measuring (s .pre .0) (s .pre .1) _ (sym long)
 
 array-borrow-prefix-left-2 : tie.Need-array-borrow-prefix-left-2
-array-borrow-prefix-left-2 c =
-    let a = c .before .before .before .before .before .before .before .before .before .before .before .before .args in
-    let k = c .before .before .before .before .before .before .before .before .before .before .before .before .pre .0 in
-    let good = c .before .before .before .before .before .before .before .before .before .before .before .before .pre .1 in
-    front-fits (length (a .src .now)) (c .before .measure .last .1 .1 .1 .0) (drop (length (a .src .now)) (c .before .before .before .zeros .result)) (c .before .measure .kept .1 .1 .1 .0 ∙ sym (front-long 512 (length (a .src .now)) 0 _ (c .before .before .before .zeros .ensures) (k .same .few)))
+array-borrow-prefix-left-2 c = front-fits (written (c .before))
 
 slice-aggregate-plan-run : tie.Need-slice-aggregate-plan-run
-slice-aggregate-plan-run c =
-    let a = c .before .before .before .before .before .before .before .before .before .before .before .before .before .args in
-    let k = c .before .before .before .before .before .before .before .before .before .before .before .before .before .pre .0 in
-    let good = c .before .before .before .before .before .before .before .before .before .before .before .before .before .pre .1 in
-    sym (ap length (front-again (length (a .src .now)) (c .before .before .measure .last .1 .1 .1 .0) (drop (length (a .src .now)) (c .before .before .before .before .zeros .result)) (c .before .before .measure .kept .1 .1 .1 .0 ∙ sym (front-long 512 (length (a .src .now)) 0 _ (c .before .before .before .before .zeros .ensures) (k .same .few)))) ∙ (c .before .before .measure .kept .1 .1 .1 .0 ∙ sym (front-long 512 (length (a .src .now)) 0 _ (c .before .before .before .before .zeros .ensures) (k .same .few))))
+slice-aggregate-plan-run c = front-as-long (written (c .before .before))
 
 slice-relend-prefix-plan-run : tie.Need-slice-relend-prefix-plan-run
 slice-relend-prefix-plan-run c = search needs
 
 slice-aggregate-plan-run-2 : tie.Need-slice-aggregate-plan-run-2
-slice-aggregate-plan-run-2 c =
-    let a = c .before .before .before .before .before .before .before .before .before .before .before .before .before .before .args in
-    let k = c .before .before .before .before .before .before .before .before .before .before .before .before .before .before .pre .0 in
-    let good = c .before .before .before .before .before .before .before .before .before .before .before .before .before .before .pre .1 in
-    sym (length-take-le _ (a .plan .now) (omega arith))
+slice-aggregate-plan-run-2 c = let s = c .before .before .before .before .before .before .before .before .before .before .before .before .before .before in sym (length-take-le _ (s .args .plan .now) (omega arith))
 
 slice-relend-prefix-plan-run-2 : tie.Need-slice-relend-prefix-plan-run-2
 slice-relend-prefix-plan-run-2 c = search needs
 
 slice-aggregate-plan-run-3 : tie.Need-slice-aggregate-plan-run-3
-slice-aggregate-plan-run-3 c =
-    let a = c .before .before .before .before .before .before .before .before .before .before .before .before .before .before .before .args in
-    let k = c .before .before .before .before .before .before .before .before .before .before .before .before .before .before .before .pre .0 in
-    let good = c .before .before .before .before .before .before .before .before .before .before .before .before .before .before .before .pre .1 in
-    sym (length-take-le _ (a .arrivals .now) (omega arith))
+slice-aggregate-plan-run-3 c = let s = c .before .before .before .before .before .before .before .before .before .before .before .before .before .before .before in sym (length-take-le _ (s .args .arrivals .now) (omega arith))
 
 plan-run-requires : tie.Need-plan-run-requires
 plan-run-requires c κs =
-    let a = c .before .before .before .before .before .before .before .before .before .before .before .before .before .before .before .args in
-    let k = c .before .before .before .before .before .before .before .before .before .before .before .before .before .before .before .pre .0 in
-    let good = c .before .before .before .before .before .before .before .before .before .before .before .before .before .before .before .pre .1 in
-    runnable (a .nodes) (a .src .now) (a .dst .now) (a .due .now) k good _ _ _ (front-again (length (a .src .now)) (c .before .before .before .before .measure .last .1 .1 .1 .0) (drop (length (a .src .now)) (c .before .before .before .before .before .before .zeros .result)) (c .before .before .before .before .measure .kept .1 .1 .1 .0 ∙ sym (front-long 512 (length (a .src .now)) 0 _ (c .before .before .before .before .before .before .zeros .ensures) (k .same .few))) ∙ c .before .before .before .before .measure .ensures)
-    (length-take-le _ (a .plan .now) (omega arith) ∙ ap (λ g. a .nodes * g) (c .before .before .before .before .before .before .before .before .before .greatest .ensures)) (length-take-le _ (a .arrivals .now) (omega arith))
+    let s = c .before .before .before .before .before .before .before .before .before .before .before .before .before .before .before in
+    let w = c .before .before .before .before in
+    let plan = length-take-le _ (s .args .plan .now) (omega arith) ∙ ap (λ g. s .args .nodes * g) (c .before .before .before .before .before .before .before .before .before .greatest .ensures) in
+    runnable (s .pre .0) (s .pre .1) _ _ (rw (front-again (written w)) (w .measure .ensures)) plan (length-take-le _ (s .args .arrivals .now) (omega arith))
 
 same-length : tie.Need-same-length
 same-length c = search needs
@@ -114,11 +100,10 @@ same-length-2 c = search needs
 
 returns-3 : tie.Need-returns-3
 returns-3 c =
-    let a = c .before .before .before .before .before .before .before .before .before .before .before .before .before .before .before .before .before .before .before .before .before .args in
-    let k = c .before .before .before .before .before .before .before .before .before .before .before .before .before .before .before .before .before .before .before .before .before .pre .0 in
-    let good = c .before .before .before .before .before .before .before .before .before .before .before .before .before .before .before .before .before .before .before .before .before .pre .1 in
-    planned-with (a .nodes) (a .src .now) (a .dst .now) (a .due .now) k good (a .plan .now) (a .arrivals .now) _ (c .before .before .before .before .before .before .before .before .before .before .before .before .before .before .before .greatest .ensures) _ _ _ _
-    (front-again (length (a .src .now)) (c .before .before .before .before .before .before .before .before .before .before .measure .last .1 .1 .1 .0) (drop (length (a .src .now)) (c .before .before .before .before .before .before .before .before .before .before .before .before .zeros .result)) (c .before .before .before .before .before .before .before .before .before .before .measure .kept .1 .1 .1 .0 ∙ sym (front-long 512 (length (a .src .now)) 0 _ (c .before .before .before .before .before .before .before .before .before .before .before .before .zeros .ensures) (k .same .few))) ∙ c .before .before .before .before .before .before .before .before .before .before .measure .ensures) (omega arith) (omega arith) (c .before .before .before .before .before .plan-run .ensures)
+    let s = c .before .before .before .before .before .before .before .before .before .before .before .before .before .before .before .before .before .before .before .before .before in
+    let w = c .before .before .before .before .before .before .before .before .before .before in
+    let last = c .before .before .before .before .before .before .before .before .before .before .before .before .before .before .before .greatest .ensures in
+    planned-with (s .pre .0) (s .pre .1) (s .args .plan .now) (s .args .arrivals .now) last (omega arith) (omega arith) (c .before .before .before .before .before .plan-run .ensures) (rw (front-again (written w)) (w .measure .ensures))
 
 pub plan-good-spec : {M : Type 1} → statement M
 plan-good-spec =

@@ -22,8 +22,9 @@ cast-time c = search needs
 
 mul-time : tie.Need-mul-time
 mul-time c =
+    let s = c .before .before .before .before .before .before .before .before .before .before .before .before .before .before .before .before .before .before .before .before .before in
     let most : c .greatest .result ≤ 65535 = omega (arith, c .greatest .ok) in
-    let nodes : c .before .before .before .before .before .before .before .before .before .before .before .before .before .before .before .before .before .before .before .before .before .args .nodes ≤ 65535 = omega (arith, c .before .before .before .before .before .before .before .before .before .before .before .before .before .before .before .before .before .before .before .before .before .fits .nodes) in
+    let nodes : s .args .nodes ≤ 65535 = omega (arith, s .fits .nodes) in
     omega (arith, mul-le-mul nodes most)
 
 sum-up-requires : tie.Need-sum-up-requires
@@ -39,7 +40,11 @@ same-length-3 : tie.Need-same-length-3
 same-length-3 c = search needs
 
 returns : tie.Need-returns
-returns c = run-accepted (c .before .before .before .before .before .before .before .before .before .before .before .before .before .before .before .before .before .before .before .before .before .before .before .pre) (c .before .before .before .before .before .before .before .before .before .before .before .before .run .ensures) (omega arith) _ (c .before .before .before .before .before .before .before .before .before .before .before .before .before .before .before .before .sum .ensures) _ (c .before .before .greatest .ensures) _ (c .sum-up .ensures)
+returns c =
+    let s = c .before .before .before .before .before .before .before .before .before .before .before .before .before .before .before .before .before .before .before .before .before .before .before in
+    let sends = c .before .before .before .before .before .before .before .before .before .before .before .before .before .before .before .before .sum .ensures in
+    let last = c .before .before .greatest .ensures in
+    run-accepted (s .pre) (c .before .before .before .before .before .before .before .before .before .before .before .before .run .ensures) (omega arith) _ sends _ last _ (c .sum-up .ensures)
 
 same-length-4 : tie.Need-same-length-4
 same-length-4 c = search needs

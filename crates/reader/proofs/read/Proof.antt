@@ -79,7 +79,13 @@ abbrev PR : RattleType
 PR = P.the-row
 
 -- the body, as `rt mir` prints it
-body-is : code.function .body ≡ seq (assign (place 3 []) (rvOpd (copy (place 2 (field 1 ∷ []))))) (seq (call #reader·parse (copy (place 1 []) ∷ copy (place 3 []) ∷ []) (place 4 [])) (seq (assign (place 6 []) (addrOf (place 2 (field 0 ∷ deref T′.mir ∷ [])))) (seq (assign (place 7 []) (aggregate (copy (place 6 []) ∷ copy (place 2 (field 1 ∷ [])) ∷ []))) (seq (call #table·store-rows (copy (place 7 []) ∷ copy (place 4 (field 2 ∷ [])) ∷ copy (place 4 (field 1 ∷ [])) ∷ []) (place 5 [])) (seq (assign (place 0 []) (rvOpd (copy (place 4 (field 0 ∷ []))))) return)))))
+body-is : code.function .body ≡
+    seq (assign (place 3 []) (rvOpd (copy (place 2 (field 1 ∷ [])))))
+    (seq (call #reader·parse (copy (place 1 []) ∷ copy (place 3 []) ∷ []) (place 4 []))
+    (seq (assign (place 6 []) (addrOf (place 2 (field 0 ∷ deref T′.mir ∷ []))))
+    (seq (assign (place 7 []) (aggregate (copy (place 6 []) ∷ copy (place 2 (field 1 ∷ [])) ∷ [])))
+    (seq (call #table·store-rows (copy (place 7 []) ∷ copy (place 4 (field 2 ∷ [])) ∷ copy (place 4 (field 1 ∷ [])) ∷ []) (place 5 []))
+    (seq (assign (place 0 []) (rvOpd (copy (place 4 (field 0 ∷ []))))) return)))))
 body-is = refl
 
 abbrev stayed : Stays (read.ended .signature .params) (read.ended .kept)

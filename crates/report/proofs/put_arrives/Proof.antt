@@ -1,13 +1,13 @@
 -- `report::put_arrives` meets its contract: after i turns the first i lines stand at their place.
 -- Assumes nothing.
 use mathlib.Core.Path.{refl}
-use Prim.Native.Nat.{_+_, _-_, _≤_}
+use Prim.Native.Nat.{_-_, _≤_}
 use native.Mathlib.Omega.{arith}
-use lib.ListN.{length, getD, drop}
-use Rattle.text.specs.Text.{line}
-use Rattle.report.specs.Report.{arrive-key, arriveLines}
-use Rattle.report.proofs.Putting.{Putting, begun, as-long, fits, put-on, one-put, all-put}
-use Rattle.report.proofs.Lines.{next-arrive, no-arrive}
+use lib.ListN.{length, drop}
+use Rattle.report.specs.Report.{arriveLines}
+use Rattle.report.proofs.Putting.{Putting, begun, as-long, all-put}
+use Rattle.report.proofs.Lines.{no-arrive}
+use Rattle.report.proofs.Listing.{arrive-fits, arrive-put}
 use borrow.Author.Needs.{needs}
 use Rattle.report.proofs.put_arrives.Statement.{statement}
 use Rattle.report.proofs.put_arrives.Tie as tie
@@ -19,7 +19,10 @@ abbrev μ-loop : tie.MeasureT-loop
 μ-loop area₀ from arrivals at₀ i₀ t6 area at i = length arrivals - i
 
 loop-holds : tie.Need-loop-holds Inv-loop μ-loop
-loop-holds c = (omega arith, begun (c .before .before .args .area .now) (c .before .before .args .from) (arriveLines (c .before .before .args .arrivals .now)) (arriveLines (c .before .before .args .arrivals .now)) (c .before .before .pre) refl)
+loop-holds c =
+    let s = c .before .before in
+    let lines = arriveLines (s .args .arrivals .now) in
+    (omega arith, begun (s .args .area .now) (s .args .from) lines lines (s .pre) refl)
 
 slice-aggregate-put-line : tie.Need-slice-aggregate-put-line Inv-loop μ-loop
 slice-aggregate-put-line c = search needs
@@ -31,7 +34,10 @@ shared-slice-read-put-line : tie.Need-shared-slice-read-put-line Inv-loop μ-loo
 shared-slice-read-put-line c = search needs
 
 put-line-requires : tie.Need-put-line-requires Inv-loop μ-loop
-put-line-requires c κs = (fits (c .before .before .before .before .loop .inv .1) (line arrive-key (getD (c .before .before .before .before .before .before .before .args .arrivals .now) (c .before .before .before .before .loop .i) 0)) (arriveLines (drop (c .before .before .before .before .loop .i + 1) (c .before .before .before .before .before .before .before .args .arrivals .now))) (next-arrive (c .before .before .before .before .before .before .before .args .arrivals .now) (c .before .before .before .before .loop .i) (c .before .before .before .loop-test .taken)), omega arith)
+put-line-requires c κs =
+    let s = c .before .before .before .before .before .before .before in
+    let l = c .before .before .before .before .loop in
+    (arrive-fits (s .args .arrivals .now) (l .i) (l .inv .1) (c .before .before .before .loop-test .taken), omega arith)
 
 add-i : tie.Need-add-i Inv-loop μ-loop
 add-i c = search needs
@@ -40,7 +46,10 @@ loop-less : tie.Need-loop-less Inv-loop μ-loop
 loop-less c = search needs
 
 loop-again : tie.Need-loop-again Inv-loop μ-loop
-loop-again c = (omega arith, put-on (c .before .before .before .before .before .before .before .loop .inv .1) (line arrive-key (getD (c .before .before .before .before .before .before .before .before .before .before .args .arrivals .now) (c .before .before .before .before .before .before .before .loop .i) 0)) (arriveLines (drop (c .before .before .before .before .before .before .before .loop .i + 1) (c .before .before .before .before .before .before .before .before .before .before .args .arrivals .now))) (next-arrive (c .before .before .before .before .before .before .before .before .before .before .args .arrivals .now) (c .before .before .before .before .before .before .before .loop .i) (c .before .before .before .before .before .before .loop-test .taken)) (c .before .before .put-line .result) (c .before .before .put-line .last .0) (one-put (c .before .before .put-line .ensures)))
+loop-again c =
+    let s = c .before .before .before .before .before .before .before .before .before .before in
+    let l = c .before .before .before .before .before .before .before .loop in
+    (omega arith, arrive-put (s .args .arrivals .now) (l .i) (l .inv .1) (c .before .before .before .before .before .before .loop-test .taken) (c .before .before .put-line .ensures))
 
 same-length : tie.Need-same-length Inv-loop μ-loop
 same-length c = as-long (c .before .loop .inv .1)

@@ -27,10 +27,16 @@ mark-behind-requires : tie.Need-mark-behind-requires Inv-loop μ-loop
 mark-behind-requires c κs = search needs
 
 put-item-requires : tie.Need-put-item-requires Inv-loop μ-loop
-put-item-requires c κs = (first-fits (c .before .before .before .before .before .before .args .area .now) (c .before .before .before .before .before .before .args .from) (c .before .before .before .before .before .before .args .entries .now) (c .before .before .before .before .before .before .pre .0) (c .before .before .before .before .before .before .pre .1) (c .mark-behind .result) (c .mark-behind .ensures), omega arith)
+put-item-requires c κs =
+    let s = c .before .before .before .before .before .before in
+    (first-fits (s .args .area .now) (s .args .from) (s .args .entries .now) (s .pre .0) (s .pre .1) (c .mark-behind .ensures), omega arith)
 
 loop-holds : tie.Need-loop-holds Inv-loop μ-loop
-loop-holds c = (c .before .before .before .before .before .before .before .before .before .pre .0, refl, others-begun (c .before .before .before .before .before .before .before .before .before .args .area .now) (c .before .before .before .before .before .before .before .before .before .args .from) (c .before .before .before .before .before .before .before .before .before .args .entries .now) (c .before .before .before .before .before .before .before .before .before .pre .0) (c .before .before .before .before .before .before .before .before .before .pre .1) (c .before .before .before .mark-behind .result) (c .before .before .before .mark-behind .ensures) (c .before .before .put-item .result) (c .before .before .put-item .last .0) (c .before .before .put-item .ensures))
+loop-holds c =
+    let s = c .before .before .before .before .before .before .before .before .before in
+    let mark = c .before .before .before .mark-behind in
+    let first = c .before .before .put-item in
+    (s .pre .0, refl, others-begun (s .args .area .now) (s .args .from) (s .args .entries .now) (s .pre .0) (s .pre .1) (mark .ensures) (first .ensures))
 
 slice-aggregate-put-item-2 : tie.Need-slice-aggregate-put-item-2 Inv-loop μ-loop
 slice-aggregate-put-item-2 c = search needs
@@ -45,7 +51,11 @@ mark-behind-requires-2 : tie.Need-mark-behind-requires-2 Inv-loop μ-loop
 mark-behind-requires-2 c κs = search needs
 
 put-item-requires-2 : tie.Need-put-item-requires-2 Inv-loop μ-loop
-put-item-requires-2 c κs = (entry-fits (c .before .before .before .before .before .before .before .before .before .before .before .before .before .before .before .args .entries .now) (c .before .before .before .before .before .loop .i) (c .before .before .before .before .before .loop .inv .2) (c .before .before .before .before .loop-test .taken) (c .mark-behind2 .result) (c .mark-behind2 .ensures), omega arith)
+put-item-requires-2 c κs =
+    let s = c .before .before .before .before .before .before .before .before .before .before .before .before .before .before .before in
+    let l = c .before .before .before .before .before .loop in
+    let mark = c .mark-behind2 in
+    (entry-fits (s .args .entries .now) (l .i) (l .inv .2) (c .before .before .before .before .loop-test .taken) (mark .ensures), omega arith)
 
 add-i : tie.Need-add-i Inv-loop μ-loop
 add-i c = search needs
@@ -54,13 +64,27 @@ loop-less : tie.Need-loop-less Inv-loop μ-loop
 loop-less c = search needs
 
 loop-again : tie.Need-loop-again Inv-loop μ-loop
-loop-again c = (omega arith, refl, entry-put (c .before .before .before .before .before .before .before .before .before .before .before .before .before .before .before .before .before .before .args .entries .now) (c .before .before .before .before .before .before .before .before .loop .i) (c .before .before .before .before .before .before .before .before .loop .inv .2) (c .before .before .before .before .before .before .before .loop-test .taken) (c .before .before .before .mark-behind2 .result) (c .before .before .before .mark-behind2 .ensures) (c .before .before .put-item2 .result) (c .before .before .put-item2 .last .0) (c .before .before .put-item2 .ensures))
+loop-again c =
+    let s = c .before .before .before .before .before .before .before .before .before .before .before .before .before .before .before .before .before .before in
+    let l = c .before .before .before .before .before .before .before .before .loop in
+    let mark = c .before .before .before .mark-behind2 in
+    let entry = c .before .before .put-item2 in
+    (omega arith, refl, entry-put (s .args .entries .now) (l .i) (l .inv .2) (c .before .before .before .before .before .before .before .loop-test .taken) (mark .ensures) (entry .ensures))
 
 same-length : tie.Need-same-length Inv-loop μ-loop
-same-length c = as-long (c .before .loop .inv .2) ∙ first-long (c .before .before .before .before .before .before .before .before .before .before .before .args .area .now) (c .before .before .before .before .before .before .before .before .before .before .before .args .from) (c .before .before .before .before .before .before .before .before .before .before .before .args .entries .now) (c .before .before .before .before .before .before .before .before .before .before .before .pre .0) (c .before .before .before .before .before .before .before .before .before .before .before .pre .1) (c .before .before .before .before .before .mark-behind .result) (c .before .before .before .before .before .mark-behind .ensures) (c .before .before .before .before .put-item .result) (c .before .before .before .before .put-item .last .0) (c .before .before .before .before .put-item .ensures)
+same-length c =
+    let s = c .before .before .before .before .before .before .before .before .before .before .before in
+    let mark = c .before .before .before .before .before .mark-behind in
+    let first = c .before .before .before .before .put-item in
+    as-long (c .before .loop .inv .2) ∙ first-long (s .args .area .now) (s .args .from) (s .args .entries .now) (s .pre .0) (s .pre .1) (mark .ensures) (first .ensures)
 
 returns : tie.Need-returns Inv-loop μ-loop
-returns c = line-put (c .before .before .before .before .before .before .before .before .before .before .before .args .area .now) (c .before .before .before .before .before .before .before .before .before .before .before .args .from) (c .before .before .before .before .before .before .before .before .before .before .before .args .entries .now) (c .before .before .before .before .before .before .before .before .before .before .before .pre .0) (c .before .before .before .before .before .before .before .before .before .before .before .pre .1) (c .before .before .before .before .before .mark-behind .result) (c .before .before .before .before .before .mark-behind .ensures) (c .before .before .before .before .put-item .result) (c .before .before .before .before .put-item .last .0) (c .before .before .before .before .put-item .ensures) (c .before .loop .at) (c .before .loop .area) (c .before .loop .i) (c .loop-test .left) (c .before .loop .inv .2)
+returns c =
+    let s = c .before .before .before .before .before .before .before .before .before .before .before in
+    let mark = c .before .before .before .before .before .mark-behind in
+    let first = c .before .before .before .before .put-item in
+    let l = c .before .loop in
+    line-put (s .args .area .now) (s .args .from) (s .args .entries .now) (s .pre .0) (s .pre .1) (mark .ensures) (first .ensures) (l .i) (c .loop-test .left) (l .inv .2)
 
 pub put-send-spec : {M : Type 1} → statement M
 put-send-spec =

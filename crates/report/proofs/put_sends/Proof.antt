@@ -1,11 +1,12 @@
 -- `report::put_sends` meets its contract: after t turns the lines of the first t slots stand at their place.
 -- Assumes nothing.
-use Prim.Native.Nat.{_+_, _-_, _*_, _≤_}
+use Prim.Native.Nat.{_-_, _*_, _≤_}
 use native.Mathlib.Omega.{arith}
-use lib.ListN.{take, drop}
-use Rattle.report.specs.Report.{sendLine, sendLines}
-use Rattle.report.proofs.Putting.{Putting, begun, as-long, fits, put-on, all-put}
-use Rattle.report.proofs.Lines.{slot-ends, slot-small, slot-some, next-send, no-send, all-sends}
+use lib.ListN.{drop}
+use Rattle.report.specs.Report.{sendLines}
+use Rattle.report.proofs.Putting.{Putting, begun, as-long, all-put}
+use Rattle.report.proofs.Lines.{slot-ends, slot-small, slot-some, no-send, all-sends}
+use Rattle.report.proofs.Listing.{send-fits, send-put}
 use borrow.Author.Needs.{needs}
 use Rattle.report.proofs.put_sends.Statement.{statement}
 use Rattle.report.proofs.put_sends.Tie as tie
@@ -17,7 +18,10 @@ abbrev μ-loop : tie.MeasureT-loop
 μ-loop area₀ from nodes slots plan at₀ t₀ area at t = slots - t
 
 loop-holds : tie.Need-loop-holds Inv-loop μ-loop
-loop-holds c = (omega arith, begun (c .before .before .args .area .now) (c .before .before .args .from) (sendLines (c .before .before .args .nodes) (c .before .before .args .slots) (c .before .before .args .plan .now)) _ (c .before .before .pre .1) (all-sends (c .before .before .args .nodes) (c .before .before .args .slots) (c .before .before .args .plan .now)))
+loop-holds c =
+    let s = c .before .before in
+    let lines = sendLines (s .args .nodes) (s .args .slots) (s .args .plan .now) in
+    (omega arith, begun (s .args .area .now) (s .args .from) lines _ (s .pre .1) (all-sends (s .args .nodes) (s .args .slots) (s .args .plan .now)))
 
 mul-base : tie.Need-mul-base Inv-loop μ-loop
 mul-base c = omega (arith, slot-small (c .before .before .before .before .pre .0) (c .before .loop .t) (c .loop-test .taken))
@@ -38,7 +42,11 @@ part-put-send-end : tie.Need-part-put-send-end Inv-loop μ-loop
 part-put-send-end c = slot-ends (c .before .before .before .before .before .pre .0) (c .before .before .loop .t) (c .before .loop-test .taken)
 
 put-send-requires : tie.Need-put-send-requires Inv-loop μ-loop
-put-send-requires c κs = (slot-some (c .before .before .before .before .before .before .pre .0) (c .before .before .before .loop .t) (c .before .before .loop-test .taken), fits (c .before .before .before .loop .inv .1) (sendLine (take (c .before .before .before .loop .t * c .before .before .before .before .before .before .args .nodes + c .before .before .before .before .before .before .args .nodes - c .before .before .before .loop .t * c .before .before .before .before .before .before .args .nodes) (drop (c .before .before .before .loop .t * c .before .before .before .before .before .before .args .nodes) (c .before .before .before .before .before .before .args .plan .now)))) (sendLines (c .before .before .before .before .before .before .args .nodes) (c .before .before .before .before .before .before .args .slots - (c .before .before .before .loop .t + 1)) (drop ((c .before .before .before .loop .t + 1) * c .before .before .before .before .before .before .args .nodes) (c .before .before .before .before .before .before .args .plan .now))) (next-send (c .before .before .before .before .before .before .pre .0) (c .before .before .before .loop .t) (c .before .before .loop-test .taken)))
+put-send-requires c κs =
+    let s = c .before .before .before .before .before .before in
+    let l = c .before .before .before .loop in
+    let on = c .before .before .loop-test .taken in
+    (slot-some (s .pre .0) (l .t) on, send-fits (s .pre .0) (l .t) on (l .inv .1))
 
 add-t : tie.Need-add-t Inv-loop μ-loop
 add-t c = search needs
@@ -47,7 +55,10 @@ loop-less : tie.Need-loop-less Inv-loop μ-loop
 loop-less c = search needs
 
 loop-again : tie.Need-loop-again Inv-loop μ-loop
-loop-again c = (omega arith, put-on (c .before .before .before .before .before .before .loop .inv .1) (sendLine (take (c .before .before .before .before .before .before .loop .t * c .before .before .before .before .before .before .before .before .before .args .nodes + c .before .before .before .before .before .before .before .before .before .args .nodes - c .before .before .before .before .before .before .loop .t * c .before .before .before .before .before .before .before .before .before .args .nodes) (drop (c .before .before .before .before .before .before .loop .t * c .before .before .before .before .before .before .before .before .before .args .nodes) (c .before .before .before .before .before .before .before .before .before .args .plan .now)))) (sendLines (c .before .before .before .before .before .before .before .before .before .args .nodes) (c .before .before .before .before .before .before .before .before .before .args .slots - (c .before .before .before .before .before .before .loop .t + 1)) (drop ((c .before .before .before .before .before .before .loop .t + 1) * c .before .before .before .before .before .before .before .before .before .args .nodes) (c .before .before .before .before .before .before .before .before .before .args .plan .now))) (next-send (c .before .before .before .before .before .before .before .before .before .pre .0) (c .before .before .before .before .before .before .loop .t) (c .before .before .before .before .before .loop-test .taken)) (c .before .before .put-send .result) (c .before .before .put-send .last .0) (c .before .before .put-send .ensures))
+loop-again c =
+    let s = c .before .before .before .before .before .before .before .before .before in
+    let l = c .before .before .before .before .before .before .loop in
+    (omega arith, send-put (s .pre .0) (l .t) (c .before .before .before .before .before .loop-test .taken) (l .inv .1) (c .before .before .put-send .ensures))
 
 same-length : tie.Need-same-length Inv-loop μ-loop
 same-length c = as-long (c .before .loop .inv .1)

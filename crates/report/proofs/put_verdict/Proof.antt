@@ -10,25 +10,37 @@ slice-aggregate-put-line : tie.Need-slice-aggregate-put-line
 slice-aggregate-put-line c = search needs
 
 put-line-requires : tie.Need-put-line-requires
-put-line-requires c κs = (answer-fits (c .before .before .before .before .args .area .now) (c .before .before .before .before .args .refusal) (c .before .before .before .before .pre), omega arith)
+put-line-requires c κs = let s = c .before .before .before .before in (answer-fits (s .args .area .now) (s .args .refusal) (s .pre), omega arith)
 
 slice-aggregate-put-line-2 : tie.Need-slice-aggregate-put-line-2
 slice-aggregate-put-line-2 c = search needs
 
 put-line-requires-2 : tie.Need-put-line-requires-2
-put-line-requires-2 c κs = (row-fits (c .before .before .before .before .before .before .before .before .before .args .area .now) (c .before .before .before .before .before .before .before .before .before .args .refusal) (c .before .before .before .before .before .before .before .before .before .pre) (c .before .before .before .before .put-line .result) (c .before .before .before .before .put-line .last .0) (c .before .before .before .before .put-line .ensures), omega arith)
+put-line-requires-2 c κs =
+    let s = c .before .before .before .before .before .before .before .before .before in
+    let one = c .before .before .before .before .put-line in
+    (row-fits (s .args .area .now) (s .args .refusal) (s .pre) (one .ensures), omega arith)
 
 slice-aggregate-put-line-3 : tie.Need-slice-aggregate-put-line-3
 slice-aggregate-put-line-3 c = search needs
 
 put-line-requires-3 : tie.Need-put-line-requires-3
-put-line-requires-3 c κs = (slot-fits (c .before .before .before .before .before .before .before .before .before .before .before .before .before .before .args .area .now) (c .before .before .before .before .before .before .before .before .before .before .before .before .before .before .args .refusal) (c .before .before .before .before .before .before .before .before .before .before .before .before .before .before .pre) (c .before .before .before .before .before .before .before .before .before .put-line .result) (c .before .before .before .before .before .before .before .before .before .put-line .last .0) (c .before .before .before .before .before .before .before .before .before .put-line .ensures) (c .before .before .before .before .put-line2 .result) (c .before .before .before .before .put-line2 .last .0) (c .before .before .before .before .put-line2 .ensures), omega arith)
+put-line-requires-3 c κs =
+    let s = c .before .before .before .before .before .before .before .before .before .before .before .before .before .before in
+    let one = c .before .before .before .before .before .before .before .before .before .put-line in
+    let two = c .before .before .before .before .put-line2 in
+    (slot-fits (s .args .area .now) (s .args .refusal) (s .pre) (one .ensures) (two .ensures), omega arith)
 
 same-length : tie.Need-same-length
 same-length c = search needs
 
 returns : tie.Need-returns
-returns c = verdict-put (c .before .before .before .before .before .before .before .before .before .before .before .before .before .before .before .before .before .args .area .now) (c .before .before .before .before .before .before .before .before .before .before .before .before .before .before .before .before .before .args .refusal) (c .before .before .before .before .before .before .before .before .before .before .before .before .before .before .before .before .before .pre) (c .before .before .before .before .before .before .before .before .before .before .before .before .put-line .result) (c .before .before .before .before .before .before .before .before .before .before .before .before .put-line .last .0) (c .before .before .before .before .before .before .before .before .before .before .before .before .put-line .ensures) (c .before .before .before .before .before .before .before .put-line2 .result) (c .before .before .before .before .before .before .before .put-line2 .last .0) (c .before .before .before .before .before .before .before .put-line2 .ensures) (c .before .before .put-line3 .result) (c .before .before .put-line3 .last .0) (c .before .before .put-line3 .ensures)
+returns c =
+    let s = c .before .before .before .before .before .before .before .before .before .before .before .before .before .before .before .before .before in
+    let one = c .before .before .before .before .before .before .before .before .before .before .before .before .put-line in
+    let two = c .before .before .before .before .before .before .before .put-line2 in
+    let three = c .before .before .put-line3 in
+    verdict-put (s .args .area .now) (s .args .refusal) (s .pre) (one .ensures) (two .ensures) (three .ensures)
 
 pub put-verdict-spec : {M : Type 1} → statement M
 put-verdict-spec =

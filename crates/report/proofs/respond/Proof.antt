@@ -1,6 +1,5 @@
 -- `report::respond` meets its contract: a text that is not read gets its three lines, and a table what is printed for it.
 -- Assumes nothing.
-use Rattle.table.specs.Steps.{listed}
 use Rattle.report.proofs.Accepting.{verdict-fits}
 use Rattle.report.proofs.Responding.{not-read, read}
 use borrow.Author.Needs.{needs}
@@ -14,7 +13,7 @@ enum-known-reading : tie.Need-enum-known-reading
 enum-known-reading c = search needs
 
 put-verdict-requires : tie.Need-put-verdict-requires
-put-verdict-requires c κs = verdict-fits (c .before .before .before .before .before .before .before .before .args .area .now) (c .before .before .reading .given .0 .0) (c .before .before .before .before .before .before .before .before .pre)
+put-verdict-requires c κs = let s = c .before .before .before .before .before .before .before .before in verdict-fits (s .args .area .now) (c .before .before .reading .given .0 .0) (s .pre)
 
 enum-known-reading-2 : tie.Need-enum-known-reading-2
 enum-known-reading-2 c = search needs
@@ -26,13 +25,19 @@ same-length : tie.Need-same-length
 same-length c = search needs
 
 returns : tie.Need-returns
-returns c = not-read (c .before .before .before .before .before .before .before .before .before .before .before .args .text .now) (c .before .before .before .before .before .before .before .before .before .before .before .args .area .now) (c .before .before .put-verdict .result) (c .before .before .put-verdict .last .0) (c .before .before .before .before .before .before .before .before .parse .result .reading) (c .before .before .before .before .before .before .before .before .parse .ensures .judged) (c .before .before .before .before .before .reading .given .0 .0) (c .before .before .before .before .before .reading .given .1) (c .before .before .put-verdict .ensures)
+returns c =
+    let s = c .before .before .before .before .before .before .before .before .before .before .before in
+    let parsed = c .before .before .before .before .before .before .before .before .parse in
+    not-read (s .args .text .now) (parsed .ensures .judged) (c .before .before .before .before .before .reading .given .1) (c .before .before .put-verdict .ensures)
 
 same-length-2 : tie.Need-same-length-2
 same-length-2 c = search needs
 
 returns-2 : tie.Need-returns-2
-returns-2 c = read (c .before .before .before .before .before .before .before .before .before .before .before .args .text .now) (c .before .before .before .before .before .before .before .before .before .before .before .args .area .now) (c .before .before .respond-table .result) (c .before .before .respond-table .last .1 .1 .1 .0) (c .before .before .before .before .before .before .before .before .parse .result .reading) (c .before .before .before .before .before .before .before .before .parse .ensures .judged) (c .before .before .before .before .before .reading2 .given .0 .0) (c .before .before .before .before .before .reading2 .given .1) (listed (c .before .before .before .before .before .before .before .before .parse .result .rows) (c .before .before .before .before .before .before .before .before .parse .result .columns)) (c .before .before .before .before .before .before .before .before .parse .ensures .rows) (c .before .before .respond-table .ensures)
+returns-2 c =
+    let s = c .before .before .before .before .before .before .before .before .before .before .before in
+    let parsed = c .before .before .before .before .before .before .before .before .parse in
+    read (s .args .text .now) (parsed .ensures .judged) (c .before .before .before .before .before .reading2 .given .1) (parsed .ensures .rows) (c .before .before .respond-table .ensures)
 
 pub respond-spec : {M : Type 1} → statement M
 respond-spec =

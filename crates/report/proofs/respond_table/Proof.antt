@@ -1,12 +1,29 @@
 -- `report::respond_table` meets its contract: it plans the table, and writes what is printed for the answer.
 -- Assumes nothing.
-use mathlib.Core.Path.{_≡_}
 use native.Mathlib.Omega.{arith}
-use lib.ListN.{length}
-use Rattle.report.proofs.Accepting.{verdict-fits, due-fits, due-front, entries-small, arrivals-fit, arrivals-front, plan-fits, plan-front, slotted, accepted-fits, refused-is, accepted-is}
+use Rattle.report.proofs.Accepting.{Answered, verdict-fits, due-fits, due-front, entries-small, arrivals-fit, arrivals-front, plan-fits, plan-front, slotted, accepted-fits, refused-is, accepted-is}
 use borrow.Author.Needs.{needs}
 use Rattle.report.proofs.respond_table.Statement.{statement}
 use Rattle.report.proofs.respond_table.Tie as tie
+
+-- The table is planned: from here on both arms of the match know this.
+answered :
+    (c : tie.After-plan-columns) →
+    let s = c .before .before .before .before .before .before in
+    let planned = c .plan-columns in
+    Answered (s .args .nodes) (s .args .rows) (s .args .columns) (planned .result) (planned .last .1 .1 .1 .0) (planned .last .1 .1 .1 .1 .0)
+answered c =
+    let s = c .before .before .before .before .before .before in
+    record {
+      plan = c .before .before .before .before .plan-room .result;
+      arrivals = c .before .before .before .arrivals-room .result;
+      plan-all = c .before .before .before .before .plan-room .ensures;
+      arrivals-all = c .before .before .before .arrivals-room .ensures;
+      out = c .plan-columns .ensures;
+      src-all = search (needs, s .good);
+      dst-all = search (needs, s .good);
+      due-all = search (needs, s .good);
+    }
 
 plan-room-requires : tie.Need-plan-room-requires
 plan-room-requires c κs = search needs
@@ -27,24 +44,18 @@ enum-known-answer : tie.Need-enum-known-answer
 enum-known-answer c = search needs
 
 put-verdict-requires : tie.Need-put-verdict-requires
-put-verdict-requires c κs = verdict-fits (c .before .before .before .before .before .before .before .before .before .before .before .before .args .area .now) (c .before .before .answer .given .0 .0) (c .before .before .before .before .before .before .before .before .before .before .before .before .pre)
+put-verdict-requires c κs =
+    let s = c .before .before .before .before .before .before .before .before .before .before .before .before in
+    verdict-fits (s .args .area .now) (c .before .before .answer .given .0 .0) (s .pre)
 
 enum-known-answer-2 : tie.Need-enum-known-answer-2
 enum-known-answer-2 c = search needs
 
 array-share-prefix-due : tie.Need-array-share-prefix-due
-array-share-prefix-due c =
-    let e : length (c .before .before .before .before .before .before .before .before .before .before .before .before .before .args .columns .src) ≡ 512 = search needs in
-    let f : length (c .before .before .before .before .before .before .before .before .before .before .before .before .before .args .columns .dst) ≡ 512 = search needs in
-    let g : length (c .before .before .before .before .before .before .before .before .before .before .before .before .before .args .columns .due) ≡ 512 = search needs in
-    due-fits (c .before .before .before .before .before .before .before .before .before .before .before .before .before .args .nodes) (c .before .before .before .before .before .before .before .before .before .before .before .before .before .args .rows) (c .before .before .before .before .before .before .before .before .before .before .before .before .before .args .columns) (c .before .before .before .before .before .before .before .before .before .before .before .plan-room .result) (c .before .before .before .before .before .before .before .before .before .before .arrivals-room .result) (c .before .before .before .before .before .before .before .before .before .before .before .plan-room .ensures) (c .before .before .before .before .before .before .before .before .before .before .arrivals-room .ensures) (c .before .before .before .before .before .before .before .plan-columns .result) (c .before .before .before .before .before .before .before .plan-columns .last .1 .1 .1 .0) (c .before .before .before .before .before .before .before .plan-columns .last .1 .1 .1 .1 .0) (c .before .before .before .before .before .before .before .plan-columns .ensures) (c .before .before .before .answer2 .given .0 .0) (c .before .before .before .answer2 .given .1) e f g
+array-share-prefix-due c = due-fits (answered (c .before .before .before .before .before .before .before)) (c .before .before .before .answer2 .given .1)
 
 slice-aggregate-greatest : tie.Need-slice-aggregate-greatest
-slice-aggregate-greatest c =
-    let e : length (c .before .before .before .before .before .before .before .before .before .before .before .before .before .before .args .columns .src) ≡ 512 = search needs in
-    let f : length (c .before .before .before .before .before .before .before .before .before .before .before .before .before .before .args .columns .dst) ≡ 512 = search needs in
-    let g : length (c .before .before .before .before .before .before .before .before .before .before .before .before .before .before .args .columns .due) ≡ 512 = search needs in
-    due-front (c .before .before .before .before .before .before .before .before .before .before .before .before .before .before .args .nodes) (c .before .before .before .before .before .before .before .before .before .before .before .before .before .before .args .rows) (c .before .before .before .before .before .before .before .before .before .before .before .before .before .before .args .columns) (c .before .before .before .before .before .before .before .before .before .before .before .before .plan-room .result) (c .before .before .before .before .before .before .before .before .before .before .before .arrivals-room .result) (c .before .before .before .before .before .before .before .before .before .before .before .before .plan-room .ensures) (c .before .before .before .before .before .before .before .before .before .before .before .arrivals-room .ensures) (c .before .before .before .before .before .before .before .before .plan-columns .result) (c .before .before .before .before .before .before .before .before .plan-columns .last .1 .1 .1 .0) (c .before .before .before .before .before .before .before .before .plan-columns .last .1 .1 .1 .1 .0) (c .before .before .before .before .before .before .before .before .plan-columns .ensures) (c .before .before .before .before .answer2 .given .0 .0) (c .before .before .before .before .answer2 .given .1) e f g
+slice-aggregate-greatest c = due-front (answered (c .before .before .before .before .before .before .before .before)) (c .before .before .before .before .answer2 .given .1)
 
 greatest-requires : tie.Need-greatest-requires
 greatest-requires c κs = search needs
@@ -54,53 +65,53 @@ cast-slots c = search needs
 
 mul-entries : tie.Need-mul-entries
 mul-entries c =
-    let e : length (c .before .before .before .before .before .before .before .before .before .before .before .before .before .before .before .args .columns .src) ≡ 512 = search needs in
-    let f : length (c .before .before .before .before .before .before .before .before .before .before .before .before .before .before .before .args .columns .dst) ≡ 512 = search needs in
-    let g : length (c .before .before .before .before .before .before .before .before .before .before .before .before .before .before .before .args .columns .due) ≡ 512 = search needs in
-    omega (arith, entries-small (c .before .before .before .before .before .before .before .before .before .before .before .before .before .before .before .args .nodes) (c .before .before .before .before .before .before .before .before .before .before .before .before .before .before .before .args .rows) (c .before .before .before .before .before .before .before .before .before .before .before .before .before .before .before .args .columns) (c .before .before .before .before .before .before .before .before .before .before .before .before .before .plan-room .result) (c .before .before .before .before .before .before .before .before .before .before .before .before .arrivals-room .result) (c .before .before .before .before .before .before .before .before .before .before .before .before .before .plan-room .ensures) (c .before .before .before .before .before .before .before .before .before .before .before .before .arrivals-room .ensures) (c .before .before .before .before .before .before .before .before .before .plan-columns .result) (c .before .before .before .before .before .before .before .before .before .plan-columns .last .1 .1 .1 .0) (c .before .before .before .before .before .before .before .before .before .plan-columns .last .1 .1 .1 .1 .0) (c .before .before .before .before .before .before .before .before .before .plan-columns .ensures) (c .before .before .before .before .before .answer2 .given .0 .0) (c .before .before .before .before .before .answer2 .given .1) e f g (c .greatest .result) (c .greatest .ensures))
+    let k = answered (c .before .before .before .before .before .before .before .before .before) in
+    let e = c .before .before .before .before .before .answer2 .given .1 in
+    omega (arith, entries-small k e (c .greatest .ensures))
 
 array-share-prefix-arrivals : tie.Need-array-share-prefix-arrivals
-array-share-prefix-arrivals c = arrivals-fit (c .before .before .before .before .before .before .before .before .before .before .before .before .before .before .before .before .args .nodes) (c .before .before .before .before .before .before .before .before .before .before .before .before .before .before .before .before .args .rows) (c .before .before .before .before .before .before .before .before .before .before .before .before .before .before .before .before .args .columns) (c .before .before .before .before .before .before .before .before .before .before .before .before .before .before .plan-room .result) (c .before .before .before .before .before .before .before .before .before .before .before .before .before .arrivals-room .result) (c .before .before .before .before .before .before .before .before .before .before .before .before .before .before .plan-room .ensures) (c .before .before .before .before .before .before .before .before .before .before .before .before .before .arrivals-room .ensures) (c .before .before .before .before .before .before .before .before .before .before .plan-columns .result) (c .before .before .before .before .before .before .before .before .before .before .plan-columns .last .1 .1 .1 .0) (c .before .before .before .before .before .before .before .before .before .before .plan-columns .last .1 .1 .1 .1 .0) (c .before .before .before .before .before .before .before .before .before .before .plan-columns .ensures) (c .before .before .before .before .before .before .answer2 .given .0 .0) (c .before .before .before .before .before .before .answer2 .given .1)
+array-share-prefix-arrivals c = arrivals-fit (answered (c .before .before .before .before .before .before .before .before .before .before)) (c .before .before .before .before .before .before .answer2 .given .1)
 
 slice-aggregate-put-accepted : tie.Need-slice-aggregate-put-accepted
-slice-aggregate-put-accepted c = arrivals-front (c .before .before .before .before .before .before .before .before .before .before .before .before .before .before .before .before .before .args .nodes) (c .before .before .before .before .before .before .before .before .before .before .before .before .before .before .before .before .before .args .rows) (c .before .before .before .before .before .before .before .before .before .before .before .before .before .before .before .before .before .args .columns) (c .before .before .before .before .before .before .before .before .before .before .before .before .before .before .before .plan-room .result) (c .before .before .before .before .before .before .before .before .before .before .before .before .before .before .arrivals-room .result) (c .before .before .before .before .before .before .before .before .before .before .before .before .before .before .before .plan-room .ensures) (c .before .before .before .before .before .before .before .before .before .before .before .before .before .before .arrivals-room .ensures) (c .before .before .before .before .before .before .before .before .before .before .before .plan-columns .result) (c .before .before .before .before .before .before .before .before .before .before .before .plan-columns .last .1 .1 .1 .0) (c .before .before .before .before .before .before .before .before .before .before .before .plan-columns .last .1 .1 .1 .1 .0) (c .before .before .before .before .before .before .before .before .before .before .before .plan-columns .ensures) (c .before .before .before .before .before .before .before .answer2 .given .0 .0) (c .before .before .before .before .before .before .before .answer2 .given .1)
+slice-aggregate-put-accepted c = arrivals-front (answered (c .before .before .before .before .before .before .before .before .before .before .before)) (c .before .before .before .before .before .before .before .answer2 .given .1)
 
 array-share-prefix-plan : tie.Need-array-share-prefix-plan
 array-share-prefix-plan c =
-    let e : length (c .before .before .before .before .before .before .before .before .before .before .before .before .before .before .before .before .before .args .columns .src) ≡ 512 = search needs in
-    let f : length (c .before .before .before .before .before .before .before .before .before .before .before .before .before .before .before .before .before .args .columns .dst) ≡ 512 = search needs in
-    let g : length (c .before .before .before .before .before .before .before .before .before .before .before .before .before .before .before .before .before .args .columns .due) ≡ 512 = search needs in
-    plan-fits (c .before .before .before .before .before .before .before .before .before .before .before .before .before .before .before .before .before .args .nodes) (c .before .before .before .before .before .before .before .before .before .before .before .before .before .before .before .before .before .args .rows) (c .before .before .before .before .before .before .before .before .before .before .before .before .before .before .before .before .before .args .columns) (c .before .before .before .before .before .before .before .before .before .before .before .before .before .before .before .plan-room .result) (c .before .before .before .before .before .before .before .before .before .before .before .before .before .before .arrivals-room .result) (c .before .before .before .before .before .before .before .before .before .before .before .before .before .before .before .plan-room .ensures) (c .before .before .before .before .before .before .before .before .before .before .before .before .before .before .arrivals-room .ensures) (c .before .before .before .before .before .before .before .before .before .before .before .plan-columns .result) (c .before .before .before .before .before .before .before .before .before .before .before .plan-columns .last .1 .1 .1 .0) (c .before .before .before .before .before .before .before .before .before .before .before .plan-columns .last .1 .1 .1 .1 .0) (c .before .before .before .before .before .before .before .before .before .before .before .plan-columns .ensures) (c .before .before .before .before .before .before .before .answer2 .given .0 .0) (c .before .before .before .before .before .before .before .answer2 .given .1) e f g (c .before .before .greatest .result) (c .before .before .greatest .ensures)
+    let k = answered (c .before .before .before .before .before .before .before .before .before .before .before) in
+    let e = c .before .before .before .before .before .before .before .answer2 .given .1 in
+    plan-fits k e (c .before .before .greatest .ensures)
 
 slice-aggregate-put-accepted-2 : tie.Need-slice-aggregate-put-accepted-2
 slice-aggregate-put-accepted-2 c =
-    let e : length (c .before .before .before .before .before .before .before .before .before .before .before .before .before .before .before .before .before .before .args .columns .src) ≡ 512 = search needs in
-    let f : length (c .before .before .before .before .before .before .before .before .before .before .before .before .before .before .before .before .before .before .args .columns .dst) ≡ 512 = search needs in
-    let g : length (c .before .before .before .before .before .before .before .before .before .before .before .before .before .before .before .before .before .before .args .columns .due) ≡ 512 = search needs in
-    plan-front (c .before .before .before .before .before .before .before .before .before .before .before .before .before .before .before .before .before .before .args .nodes) (c .before .before .before .before .before .before .before .before .before .before .before .before .before .before .before .before .before .before .args .rows) (c .before .before .before .before .before .before .before .before .before .before .before .before .before .before .before .before .before .before .args .columns) (c .before .before .before .before .before .before .before .before .before .before .before .before .before .before .before .before .plan-room .result) (c .before .before .before .before .before .before .before .before .before .before .before .before .before .before .before .arrivals-room .result) (c .before .before .before .before .before .before .before .before .before .before .before .before .before .before .before .before .plan-room .ensures) (c .before .before .before .before .before .before .before .before .before .before .before .before .before .before .before .arrivals-room .ensures) (c .before .before .before .before .before .before .before .before .before .before .before .before .plan-columns .result) (c .before .before .before .before .before .before .before .before .before .before .before .before .plan-columns .last .1 .1 .1 .0) (c .before .before .before .before .before .before .before .before .before .before .before .before .plan-columns .last .1 .1 .1 .1 .0) (c .before .before .before .before .before .before .before .before .before .before .before .before .plan-columns .ensures) (c .before .before .before .before .before .before .before .before .answer2 .given .0 .0) (c .before .before .before .before .before .before .before .before .answer2 .given .1) e f g (c .before .before .before .greatest .result) (c .before .before .before .greatest .ensures)
+    let k = answered (c .before .before .before .before .before .before .before .before .before .before .before .before) in
+    let e = c .before .before .before .before .before .before .before .before .answer2 .given .1 in
+    plan-front k e (c .before .before .before .greatest .ensures)
 
 put-accepted-requires : tie.Need-put-accepted-requires
 put-accepted-requires c κs =
-    let e : length (c .before .before .before .before .before .before .before .before .before .before .before .before .before .before .before .before .before .before .args .columns .src) ≡ 512 = search needs in
-    let f : length (c .before .before .before .before .before .before .before .before .before .before .before .before .before .before .before .before .before .before .args .columns .dst) ≡ 512 = search needs in
-    let g : length (c .before .before .before .before .before .before .before .before .before .before .before .before .before .before .before .before .before .before .args .columns .due) ≡ 512 = search needs in
-    (slotted (c .before .before .before .before .before .before .before .before .before .before .before .before .before .before .before .before .before .before .args .nodes) (c .before .before .before .before .before .before .before .before .before .before .before .before .before .before .before .before .before .before .args .rows) (c .before .before .before .before .before .before .before .before .before .before .before .before .before .before .before .before .before .before .args .columns) (c .before .before .before .before .before .before .before .before .before .before .before .before .before .before .before .before .plan-room .result) (c .before .before .before .before .before .before .before .before .before .before .before .before .before .before .before .arrivals-room .result) (c .before .before .before .before .before .before .before .before .before .before .before .before .before .before .before .before .plan-room .ensures) (c .before .before .before .before .before .before .before .before .before .before .before .before .before .before .before .arrivals-room .ensures) (c .before .before .before .before .before .before .before .before .before .before .before .before .plan-columns .result) (c .before .before .before .before .before .before .before .before .before .before .before .before .plan-columns .last .1 .1 .1 .0) (c .before .before .before .before .before .before .before .before .before .before .before .before .plan-columns .last .1 .1 .1 .1 .0) (c .before .before .before .before .before .before .before .before .before .before .before .before .plan-columns .ensures) (c .before .before .before .before .before .before .before .before .answer2 .given .0 .0) (c .before .before .before .before .before .before .before .before .answer2 .given .1) e f g (c .before .before .before .greatest .result) (c .before .before .before .greatest .ensures), accepted-fits (c .before .before .before .before .before .before .before .before .before .before .before .before .before .before .before .before .before .before .args .nodes) (c .before .before .before .before .before .before .before .before .before .before .before .before .before .before .before .before .before .before .args .rows) (c .before .before .before .before .before .before .before .before .before .before .before .before .before .before .before .before .before .before .args .columns) (c .before .before .before .before .before .before .before .before .before .before .before .before .before .before .before .before .plan-room .result) (c .before .before .before .before .before .before .before .before .before .before .before .before .before .before .before .arrivals-room .result) (c .before .before .before .before .before .before .before .before .before .before .before .before .before .before .before .before .plan-room .ensures) (c .before .before .before .before .before .before .before .before .before .before .before .before .before .before .before .arrivals-room .ensures) (c .before .before .before .before .before .before .before .before .before .before .before .before .plan-columns .result) (c .before .before .before .before .before .before .before .before .before .before .before .before .plan-columns .last .1 .1 .1 .0) (c .before .before .before .before .before .before .before .before .before .before .before .before .plan-columns .last .1 .1 .1 .1 .0) (c .before .before .before .before .before .before .before .before .before .before .before .before .plan-columns .ensures) (c .before .before .before .before .before .before .before .before .answer2 .given .0 .0) (c .before .before .before .before .before .before .before .before .answer2 .given .1) e f g (c .before .before .before .greatest .result) (c .before .before .before .greatest .ensures) (c .before .before .before .before .before .before .before .before .before .before .before .before .before .before .before .before .before .before .args .area .now) (c .before .before .before .before .before .before .before .before .before .before .before .before .before .before .before .before .before .before .pre))
+    let s = c .before .before .before .before .before .before .before .before .before .before .before .before .before .before .before .before .before .before in
+    let k = answered (c .before .before .before .before .before .before .before .before .before .before .before .before) in
+    let e = c .before .before .before .before .before .before .before .before .answer2 .given .1 in
+    let found = c .before .before .before .greatest .ensures in
+    (slotted k e found, accepted-fits k e found (s .args .area .now) (s .pre))
 
 same-length : tie.Need-same-length
 same-length c = search needs
 
 returns : tie.Need-returns
-returns c = rw (refused-is (c .before .before .before .before .before .before .before .before .before .before .before .before .before .before .before .args .nodes) (c .before .before .before .before .before .before .before .before .before .before .before .before .before .before .before .args .rows) (c .before .before .before .before .before .before .before .before .before .before .before .before .before .before .before .args .columns) (c .before .before .before .before .before .before .before .before .before .before .before .before .before .plan-room .result) (c .before .before .before .before .before .before .before .before .before .before .before .before .arrivals-room .result) (c .before .before .before .before .before .before .before .before .before .before .before .before .before .plan-room .ensures) (c .before .before .before .before .before .before .before .before .before .before .before .before .arrivals-room .ensures) (c .before .before .before .before .before .before .before .before .before .plan-columns .result) (c .before .before .before .before .before .before .before .before .before .plan-columns .last .1 .1 .1 .0) (c .before .before .before .before .before .before .before .before .before .plan-columns .last .1 .1 .1 .1 .0) (c .before .before .before .before .before .before .before .before .before .plan-columns .ensures) (c .before .before .before .before .before .answer .given .0 .0) (c .before .before .before .before .before .answer .given .1)) (c .before .before .put-verdict .ensures)
+returns c =
+    let k = answered (c .before .before .before .before .before .before .before .before .before) in
+    rw (refused-is k (c .before .before .before .before .before .answer .given .1)) (c .before .before .put-verdict .ensures)
 
 same-length-2 : tie.Need-same-length-2
 same-length-2 c = search needs
 
 returns-2 : tie.Need-returns-2
 returns-2 c =
-    let e : length (c .before .before .before .before .before .before .before .before .before .before .before .before .before .before .before .before .before .before .before .before .before .args .columns .src) ≡ 512 = search (needs, c .before .before .before .before .before .before .before .before .before .before .before .before .before .before .before .before .before .before .before .before .before .good) in
-    let f : length (c .before .before .before .before .before .before .before .before .before .before .before .before .before .before .before .before .before .before .before .before .before .args .columns .dst) ≡ 512 = search (needs, c .before .before .before .before .before .before .before .before .before .before .before .before .before .before .before .before .before .before .before .before .before .good) in
-    let g : length (c .before .before .before .before .before .before .before .before .before .before .before .before .before .before .before .before .before .before .before .before .before .args .columns .due) ≡ 512 = search (needs, c .before .before .before .before .before .before .before .before .before .before .before .before .before .before .before .before .before .before .before .before .before .good) in
-    rw (accepted-is (c .before .before .before .before .before .before .before .before .before .before .before .before .before .before .before .before .before .before .before .before .before .args .nodes) (c .before .before .before .before .before .before .before .before .before .before .before .before .before .before .before .before .before .before .before .before .before .args .rows) (c .before .before .before .before .before .before .before .before .before .before .before .before .before .before .before .before .before .before .before .before .before .args .columns) (c .before .before .before .before .before .before .before .before .before .before .before .before .before .before .before .before .before .before .before .plan-room .result) (c .before .before .before .before .before .before .before .before .before .before .before .before .before .before .before .before .before .before .arrivals-room .result) (c .before .before .before .before .before .before .before .before .before .before .before .before .before .before .before .before .before .before .before .plan-room .ensures) (c .before .before .before .before .before .before .before .before .before .before .before .before .before .before .before .before .before .before .arrivals-room .ensures) (c .before .before .before .before .before .before .before .before .before .before .before .before .before .before .before .plan-columns .result) (c .before .before .before .before .before .before .before .before .before .before .before .before .before .before .before .plan-columns .last .1 .1 .1 .0) (c .before .before .before .before .before .before .before .before .before .before .before .before .before .before .before .plan-columns .last .1 .1 .1 .1 .0) (c .before .before .before .before .before .before .before .before .before .before .before .before .before .before .before .plan-columns .ensures) (c .before .before .before .before .before .before .before .before .before .before .before .answer2 .given .0 .0) (c .before .before .before .before .before .before .before .before .before .before .before .answer2 .given .1) e f g (c .before .before .before .before .before .before .greatest .result) (c .before .before .before .before .before .before .greatest .ensures)) (c .before .before .put-accepted .ensures)
+    let k = answered (c .before .before .before .before .before .before .before .before .before .before .before .before .before .before .before) in
+    let e = c .before .before .before .before .before .before .before .before .before .before .before .answer2 .given .1 in
+    let found = c .before .before .before .before .before .before .greatest .ensures in
+    rw (accepted-is k e found) (c .before .before .put-accepted .ensures)
 
 pub respond-table-spec : {M : Type 1} → statement M
 respond-table-spec =

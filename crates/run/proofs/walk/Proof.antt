@@ -183,7 +183,10 @@ same-length : tie.Need-same-length Inv-loop μ-loop Inv-instants μ-instants
 same-length c = c .before .before .before .instants .inv .0 .left-long
 
 same-length-2 : tie.Need-same-length-2 Inv-loop μ-loop Inv-instants μ-instants
-same-length-2 c = same-figures _ (c .before .before .before .before .before .before .before .before .before .args .left .now) _ _ _ (c .before .before .before .instants .inv .1) (c .before .before .before .before .before .before .before .before .before .pre .1) (c .before .before .before .instants .inv .0 .left-long)
+same-length-2 c =
+    let s = c .before .before .before .before .before .before .before .before .before in
+    let o = c .before .before .before .instants in
+    same-figures _ (s .args .left .now) _ _ _ (o .inv .1) (s .pre .1) (o .inv .0 .left-long)
 
 same-length-3 : tie.Need-same-length-3 Inv-loop μ-loop Inv-instants μ-instants
 same-length-3 c = c .before .before .before .instants .inv .0 .plan-long
@@ -203,7 +206,10 @@ same-length-5 : tie.Need-same-length-5 Inv-loop μ-loop Inv-instants μ-instants
 same-length-5 c = c .before .before .before .before .before .before .before .before .before .instants .inv .0 .left-long
 
 same-length-6 : tie.Need-same-length-6 Inv-loop μ-loop Inv-instants μ-instants
-same-length-6 c = same-figures _ (c .before .before .before .before .before .before .before .before .before .before .before .before .before .before .before .args .left .now) _ _ _ (c .before .before .before .before .before .before .before .before .before .instants .inv .1) (c .before .before .before .before .before .before .before .before .before .before .before .before .before .before .before .pre .1) (c .before .before .before .before .before .before .before .before .before .instants .inv .0 .left-long)
+same-length-6 c =
+    let s = c .before .before .before .before .before .before .before .before .before .before .before .before .before .before .before in
+    let o = c .before .before .before .before .before .before .before .before .before .instants in
+    same-figures _ (s .args .left .now) _ _ _ (o .inv .1) (s .pre .1) (o .inv .0 .left-long)
 
 same-length-7 : tie.Need-same-length-7 Inv-loop μ-loop Inv-instants μ-instants
 same-length-7 c = c .before .before .before .before .before .before .before .before .before .instants .inv .0 .plan-long

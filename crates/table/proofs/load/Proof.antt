@@ -110,10 +110,19 @@ turn =
 abbrev rest : Code
 rest = seq (assign (place 0 []) (rvOpd (copy (place 3 [])))) return
 
-body-is : code.function .body ≡ seq (assign (place 6 []) (rvOpd (copy (place 1 (field 1 ∷ []))))) (seq (call #table·at-most-512 (copy (place 6 []) ∷ []) (place 2 [])) (seq (call #table·blank [] (place 7 [])) (seq (assign (place 3 []) (rvOpd (copy (place 7 [])))) (seq (assign (place 4 []) (rvOpd (int w64 0))) (seq (block (loop turn)) rest)))))
+body-is : code.function .body ≡
+    seq (assign (place 6 []) (rvOpd (copy (place 1 (field 1 ∷ [])))))
+    (seq (call #table·at-most-512 (copy (place 6 []) ∷ []) (place 2 []))
+    (seq (call #table·blank [] (place 7 []))
+    (seq (assign (place 3 []) (rvOpd (copy (place 7 []))))
+    (seq (assign (place 4 []) (rvOpd (int w64 0)))
+    (seq (block (loop turn)) rest)))))
 body-is = refl
 
-locals-are : code.function .locals ≡ local B′.mir valueLocal ∷ local slice valueLocal ∷ local word valueLocal ∷ local B′.mir memorySlot ∷ local word valueLocal ∷ local T′.mir valueLocal ∷ local word valueLocal ∷ local B′.mir valueLocal ∷ local tyBool valueLocal ∷ local word valueLocal ∷ local tyPtr valueLocal ∷ local tyPtr valueLocal ∷ local tyPtr valueLocal ∷ local tyPtr valueLocal ∷ local tyPtr valueLocal ∷ local tyPtr valueLocal ∷ []
+locals-are : code.function .locals ≡
+    local B′.mir valueLocal ∷ local slice valueLocal ∷ local word valueLocal ∷ local B′.mir memorySlot ∷ local word valueLocal ∷ local T′.mir valueLocal ∷
+    local word valueLocal ∷ local B′.mir valueLocal ∷ local tyBool valueLocal ∷ local word valueLocal ∷ local tyPtr valueLocal ∷ local tyPtr valueLocal ∷
+    local tyPtr valueLocal ∷ local tyPtr valueLocal ∷ local tyPtr valueLocal ∷ local tyPtr valueLocal ∷ []
 locals-are = refl
 
 abbrev stayed : Stays (load.ended .signature .params) (load.ended .kept)
@@ -265,7 +274,9 @@ module _ {M : Type 1} (𝓤 : URA M) (H : Heap 𝓤) (A : Atoms 𝓤) (W : Given
           ‵ (froom B′.mir l₀ 0) ∷ ‵ (fat fullShare slice l₁ 0 sv) ∷ ‵ (fat fullShare word l₂ 0 (vint w64 m)) ∷ ‵ (fat fullShare B′.mir l₃ 0 (machine (tab i))) ∷ ‵ (fat fullShare word l₄ 0 (vint w64 i))
           ∷ ‵ (froom T′.mir l₅ 0) ∷ ‵ (froom word l₆ 0) ∷ ‵ (froom B′.mir l₇ 0) ∷ ‵ (froom tyBool l₈ 0) ∷ ‵ (froom word l₉ 0) ∷ ‵ (froom tyPtr l₁₀ 0) ∷ ‵ (froom tyPtr l₁₁ 0) ∷ ‵ (froom tyPtr l₁₂ 0) ∷ ‵ (froom tyPtr l₁₃ 0) ∷ ‵ (froom tyPtr l₁₄ 0) ∷ ‵ (froom tyPtr l₁₅ 0)
           ∷ ‵ (flft κ q) ∷ ‵ OwnS
-          ∷ ‵ (fdies B′.mir l₀) ∷ ‵ (fdies slice l₁) ∷ ‵ (fdies word l₂) ∷ ‵ (fdies B′.mir l₃) ∷ ‵ (fdies word l₄) ∷ ‵ (fdies T′.mir l₅) ∷ ‵ (fdies word l₆) ∷ ‵ (fdies B′.mir l₇) ∷ ‵ (fdies tyBool l₈) ∷ ‵ (fdies word l₉) ∷ ‵ (fdies tyPtr l₁₀) ∷ ‵ (fdies tyPtr l₁₁) ∷ ‵ (fdies tyPtr l₁₂) ∷ ‵ (fdies tyPtr l₁₃) ∷ ‵ (fdies tyPtr l₁₄) ∷ ‵ (fdies tyPtr l₁₅) ∷ []
+          ∷ ‵ (fdies B′.mir l₀) ∷ ‵ (fdies slice l₁) ∷ ‵ (fdies word l₂) ∷ ‵ (fdies B′.mir l₃) ∷ ‵ (fdies word l₄) ∷ ‵ (fdies T′.mir l₅) ∷ ‵ (fdies word l₆) ∷ ‵ (fdies B′.mir l₇)
+          ∷ ‵ (fdies tyBool l₈) ∷ ‵ (fdies word l₉) ∷ ‵ (fdies tyPtr l₁₀) ∷ ‵ (fdies tyPtr l₁₁) ∷ ‵ (fdies tyPtr l₁₂) ∷ ‵ (fdies tyPtr l₁₃) ∷ ‵ (fdies tyPtr l₁₄)
+          ∷ ‵ (fdies tyPtr l₁₅) ∷ []
 
       abbrev Facts : ℕ → ℕ → Type 0
       Facts t i = (t + i ≡ m) × IsColumns (tab i)
@@ -344,7 +355,10 @@ module _ {M : Type 1} (𝓤 : URA M) (H : Heap 𝓤) (A : Atoms 𝓤) (W : Given
           leaves-loop ! (loads ! (from ! (stop !)) (look ! 8 refl)) $ exec ! C Λ En rest (atRet En Post) $
           assigns ! (of-opd ! (loads ! (from ! (stop !)) (look ! 3 refl))) (from ! (stop !)) (init ! 0 refl (LL.lawful B.the-type B′.the-laws 𝓤 H A W .typed (tab m) _ p .0)) $
           returns ! (look ! 0 refl) $ forget ! 0 refl $ forget ! 1 refl $ forget ! 2 refl $ forget ! 3 refl $ forget ! 4 refl $ forget ! 8 refl $
-          move ! (0 ∷ 18 ∷ []) $ free1 ! $ move ! (0 ∷ 17 ∷ []) $ free1 ! $ move ! (0 ∷ 16 ∷ []) $ free1 ! $ move ! (0 ∷ 15 ∷ []) $ free1 ! $ move ! (0 ∷ 14 ∷ []) $ free1 ! $ move ! (0 ∷ 13 ∷ []) $ free1 ! $ move ! (0 ∷ 12 ∷ []) $ free1 ! $ move ! (0 ∷ 11 ∷ []) $ free1 ! $ move ! (0 ∷ 10 ∷ []) $ free1 ! $ move ! (0 ∷ 9 ∷ []) $ free1 ! $ move ! (0 ∷ 8 ∷ []) $ free1 ! $ move ! (0 ∷ 7 ∷ []) $ free1 ! $ move ! (0 ∷ 6 ∷ []) $ free1 ! $ move ! (0 ∷ 5 ∷ []) $ free1 ! $ move ! (0 ∷ 4 ∷ []) $ free1 ! $ move ! (0 ∷ 3 ∷ []) $ free1 ! $
+          move ! (0 ∷ 18 ∷ []) $ free1 ! $ move ! (0 ∷ 17 ∷ []) $ free1 ! $ move ! (0 ∷ 16 ∷ []) $ free1 ! $ move ! (0 ∷ 15 ∷ []) $ free1 ! $ move ! (0 ∷ 14 ∷ []) $ free1 ! $
+          move ! (0 ∷ 13 ∷ []) $ free1 ! $ move ! (0 ∷ 12 ∷ []) $ free1 ! $ move ! (0 ∷ 11 ∷ []) $ free1 ! $ move ! (0 ∷ 10 ∷ []) $ free1 ! $ move ! (0 ∷ 9 ∷ []) $ free1 ! $
+          move ! (0 ∷ 8 ∷ []) $ free1 ! $ move ! (0 ∷ 7 ∷ []) $ free1 ! $ move ! (0 ∷ 6 ∷ []) $ free1 ! $ move ! (0 ∷ 5 ∷ []) $ free1 ! $ move ! (0 ∷ 4 ∷ []) $ free1 ! $
+          move ! (0 ∷ 3 ∷ []) $ free1 ! $
           free0 ! $ by ! (exits p)
 
       into : (t i : ℕ) → t + i ≡ m → IsColumns (tab i) → ent 𝓤 (⋆ 𝓤 H A (At i)) (Inv t)

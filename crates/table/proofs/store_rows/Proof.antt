@@ -105,7 +105,11 @@ rest = seq (assign (place 0 []) (rvOpd opdUnit)) return
 body-is : code.function .body ≡ seq (assign (place 4 []) (rvOpd (copy (place 2 [])))) (seq (assign (place 5 []) (rvOpd (int w64 0))) (seq (block (loop turn)) rest))
 body-is = refl
 
-locals-are : code.function .locals ≡ local tyUnit valueLocal ∷ local slice valueLocal ∷ local B′.mir valueLocal ∷ local word valueLocal ∷ local B′.mir memorySlot ∷ local word valueLocal ∷ local T′.mir valueLocal ∷ local tyBool valueLocal ∷ local word valueLocal ∷ local tyPtr valueLocal ∷ local tyPtr valueLocal ∷ local half valueLocal ∷ local word valueLocal ∷ local tyPtr valueLocal ∷ local tyPtr valueLocal ∷ local half valueLocal ∷ local word valueLocal ∷ local tyPtr valueLocal ∷ local tyPtr valueLocal ∷ local half valueLocal ∷ local tyPtr valueLocal ∷ []
+locals-are : code.function .locals ≡
+    local tyUnit valueLocal ∷ local slice valueLocal ∷ local B′.mir valueLocal ∷ local word valueLocal ∷ local B′.mir memorySlot ∷ local word valueLocal ∷
+    local T′.mir valueLocal ∷ local tyBool valueLocal ∷ local word valueLocal ∷ local tyPtr valueLocal ∷ local tyPtr valueLocal ∷ local half valueLocal ∷
+    local word valueLocal ∷ local tyPtr valueLocal ∷ local tyPtr valueLocal ∷ local half valueLocal ∷ local word valueLocal ∷ local tyPtr valueLocal ∷
+    local tyPtr valueLocal ∷ local half valueLocal ∷ local tyPtr valueLocal ∷ []
 locals-are = refl
 
 abbrev stayed : Stays (store-rows.ended .signature .params) (store-rows.ended .kept)
@@ -163,15 +167,21 @@ module _ {M : Type 1} (𝓤 : URA M) (H : Heap 𝓤) (A : Atoms 𝓤) (W : Given
 
     module _ (l₀ l₁ l₂ l₃ l₄ l₅ l₆ l₇ l₈ l₉ l₁₀ l₁₁ l₁₂ l₁₃ l₁₄ l₁₅ l₁₆ l₁₇ l₁₈ l₁₉ l₂₀ : ℕ) where
       abbrev En : Env 𝓤 H
-      En = (tyUnit, l₀) ∷ (slice, l₁) ∷ (B′.mir, l₂) ∷ (word, l₃) ∷ (B′.mir, l₄) ∷ (word, l₅) ∷ (T′.mir, l₆) ∷ (tyBool, l₇) ∷ (word, l₈) ∷ (tyPtr, l₉) ∷ (tyPtr, l₁₀) ∷ (half, l₁₁) ∷ (word, l₁₂) ∷ (tyPtr, l₁₃) ∷ (tyPtr, l₁₄) ∷ (half, l₁₅) ∷ (word, l₁₆) ∷ (tyPtr, l₁₇) ∷ (tyPtr, l₁₈) ∷ (half, l₁₉) ∷ (tyPtr, l₂₀) ∷ []
+      En =
+          (tyUnit, l₀) ∷ (slice, l₁) ∷ (B′.mir, l₂) ∷ (word, l₃) ∷ (B′.mir, l₄) ∷ (word, l₅) ∷ (T′.mir, l₆) ∷ (tyBool, l₇) ∷ (word, l₈) ∷ (tyPtr, l₉) ∷ (tyPtr, l₁₀) ∷ (half, l₁₁) ∷
+          (word, l₁₂) ∷ (tyPtr, l₁₃) ∷ (tyPtr, l₁₄) ∷ (half, l₁₅) ∷ (word, l₁₆) ∷ (tyPtr, l₁₇) ∷ (tyPtr, l₁₈) ∷ (half, l₁₉) ∷ (tyPtr, l₂₀) ∷ []
 
       -- the first i rows are written. Local j is entry j
       abbrev At : ℕ → List (Item 𝓤)
       At i =
           ‵ (froom tyUnit l₀ 0) ∷ ‵ (fat fullShare slice l₁ 0 sv) ∷ ‵ (fat fullShare B′.mir l₂ 0 (machine c)) ∷ ‵ (fat fullShare word l₃ 0 (vint w64 k)) ∷ ‵ (fat fullShare B′.mir l₄ 0 (machine c)) ∷ ‵ (fat fullShare word l₅ 0 (vint w64 i))
-          ∷ ‵ (froom T′.mir l₆ 0) ∷ ‵ (froom tyBool l₇ 0) ∷ ‵ (froom word l₈ 0) ∷ ‵ (froom tyPtr l₉ 0) ∷ ‵ (froom tyPtr l₁₀ 0) ∷ ‵ (froom half l₁₁ 0) ∷ ‵ (froom word l₁₂ 0) ∷ ‵ (froom tyPtr l₁₃ 0) ∷ ‵ (froom tyPtr l₁₄ 0) ∷ ‵ (froom half l₁₅ 0) ∷ ‵ (froom word l₁₆ 0) ∷ ‵ (froom tyPtr l₁₇ 0) ∷ ‵ (froom tyPtr l₁₈ 0) ∷ ‵ (froom half l₁₉ 0) ∷ ‵ (froom tyPtr l₂₀ 0)
+          ∷ ‵ (froom T′.mir l₆ 0) ∷ ‵ (froom tyBool l₇ 0) ∷ ‵ (froom word l₈ 0) ∷ ‵ (froom tyPtr l₉ 0) ∷ ‵ (froom tyPtr l₁₀ 0) ∷ ‵ (froom half l₁₁ 0) ∷ ‵ (froom word l₁₂ 0)
+          ∷ ‵ (froom tyPtr l₁₃ 0) ∷ ‵ (froom tyPtr l₁₄ 0) ∷ ‵ (froom half l₁₅ 0) ∷ ‵ (froom word l₁₆ 0) ∷ ‵ (froom tyPtr l₁₇ 0) ∷ ‵ (froom tyPtr l₁₈ 0) ∷ ‵ (froom half l₁₉ 0)
+          ∷ ‵ (froom tyPtr l₂₀ 0)
           ∷ ‵ (fobs γ (codedHoleys R .code (heres R (zs i)))) ∷ ‵ (fbor κ (Held R (length (zs i)) b o γ)) ∷ ‵ (flft κ q)
-          ∷ ‵ (fdies tyUnit l₀) ∷ ‵ (fdies slice l₁) ∷ ‵ (fdies B′.mir l₂) ∷ ‵ (fdies word l₃) ∷ ‵ (fdies B′.mir l₄) ∷ ‵ (fdies word l₅) ∷ ‵ (fdies T′.mir l₆) ∷ ‵ (fdies tyBool l₇) ∷ ‵ (fdies word l₈) ∷ ‵ (fdies tyPtr l₉) ∷ ‵ (fdies tyPtr l₁₀) ∷ ‵ (fdies half l₁₁) ∷ ‵ (fdies word l₁₂) ∷ ‵ (fdies tyPtr l₁₃) ∷ ‵ (fdies tyPtr l₁₄) ∷ ‵ (fdies half l₁₅) ∷ ‵ (fdies word l₁₆) ∷ ‵ (fdies tyPtr l₁₇) ∷ ‵ (fdies tyPtr l₁₈) ∷ ‵ (fdies half l₁₉) ∷ ‵ (fdies tyPtr l₂₀) ∷ []
+          ∷ ‵ (fdies tyUnit l₀) ∷ ‵ (fdies slice l₁) ∷ ‵ (fdies B′.mir l₂) ∷ ‵ (fdies word l₃) ∷ ‵ (fdies B′.mir l₄) ∷ ‵ (fdies word l₅) ∷ ‵ (fdies T′.mir l₆) ∷ ‵ (fdies tyBool l₇)
+          ∷ ‵ (fdies word l₈) ∷ ‵ (fdies tyPtr l₉) ∷ ‵ (fdies tyPtr l₁₀) ∷ ‵ (fdies half l₁₁) ∷ ‵ (fdies word l₁₂) ∷ ‵ (fdies tyPtr l₁₃) ∷ ‵ (fdies tyPtr l₁₄) ∷ ‵ (fdies half l₁₅)
+          ∷ ‵ (fdies word l₁₆) ∷ ‵ (fdies tyPtr l₁₇) ∷ ‵ (fdies tyPtr l₁₈) ∷ ‵ (fdies half l₁₉) ∷ ‵ (fdies tyPtr l₂₀) ∷ []
 
       -- the invariant, where u rows are left
       abbrev Inv : ℕ → SProp 𝓤
@@ -230,7 +240,8 @@ module _ {M : Type 1} (𝓤 : URA M) (H : Heap 𝓤) (A : Atoms 𝓤) (W : Given
           closes-slice ! tt R (zs i) (zs (suc i)) same-long b o $
           -- [obs; the borrow; the token; local j at j + 3; …]
           assigns-last ! (bin ! (loads ! (from ! (stop !)) (look ! 8 refl)) (lit ! tt) (record { fits = next })) (from ! (stop !)) (store ! 8 refl (tt, record { fits = next })) $
-          forget ! 9 refl $ forget ! 10 refl $ forget ! 11 refl $ forget ! 12 refl $ forget ! 13 refl $ forget ! 14 refl $ forget ! 15 refl $ forget ! 16 refl $ forget ! 17 refl $ forget ! 18 refl $ forget ! 19 refl $ forget ! 20 refl $ forget ! 21 refl $ forget ! 22 refl $ forget ! 23 refl $
+          forget ! 9 refl $ forget ! 10 refl $ forget ! 11 refl $ forget ! 12 refl $ forget ! 13 refl $ forget ! 14 refl $ forget ! 15 refl $ forget ! 16 refl $ forget ! 17 refl $
+          forget ! 18 refl $ forget ! 19 refl $ forget ! 20 refl $ forget ! 21 refl $ forget ! 22 refl $ forget ! 23 refl $
           rewrite ! 8 (λ (j : ℕ). ‵ (fat fullShare word l₅ 0 (vint w64 j))) (add-one i) refl $
           keep ! (3 ∷ 4 ∷ 5 ∷ 6 ∷ 7 ∷ 8 ∷ 9 ∷ 10 ∷ 11 ∷ 12 ∷ 13 ∷ 14 ∷ 15 ∷ 16 ∷ 17 ∷ 18 ∷ 19 ∷ 20 ∷ 21 ∷ 22 ∷ 23 ∷ 0 ∷ 1 ∷ 2 ∷ 24 ∷ 25 ∷ 26 ∷ 27 ∷ 28 ∷ 29 ∷ 30 ∷ 31 ∷ 32 ∷ 33 ∷ 34 ∷ 35 ∷ 36 ∷ 37 ∷ 38 ∷ 39 ∷ 40 ∷ 41 ∷ 42 ∷ 43 ∷ 44 ∷ []) $ by ! h)
         where
@@ -262,7 +273,11 @@ module _ {M : Type 1} (𝓤 : URA M) (H : Heap 𝓤) (A : Atoms 𝓤) (W : Given
           leaves-loop ! (loads ! (from ! (stop !)) (look ! 7 refl)) $ exec ! C Λ En rest (atRet En Post) $
           assigns ! (of-opd ! (unit-lit !)) (from ! (stop !)) (init ! 0 refl (tt, tt)) $
           returns ! (look ! 0 refl) $ forget ! 0 refl $ forget ! 1 refl $ forget ! 2 refl $ forget ! 3 refl $ forget ! 4 refl $ forget ! 5 refl $ forget ! 7 refl $
-          move ! (0 ∷ 24 ∷ []) $ free1 ! $ move ! (0 ∷ 23 ∷ []) $ free1 ! $ move ! (0 ∷ 22 ∷ []) $ free1 ! $ move ! (0 ∷ 21 ∷ []) $ free1 ! $ move ! (0 ∷ 20 ∷ []) $ free1 ! $ move ! (0 ∷ 19 ∷ []) $ free1 ! $ move ! (0 ∷ 18 ∷ []) $ free1 ! $ move ! (0 ∷ 17 ∷ []) $ free1 ! $ move ! (0 ∷ 16 ∷ []) $ free1 ! $ move ! (0 ∷ 15 ∷ []) $ free1 ! $ move ! (0 ∷ 14 ∷ []) $ free1 ! $ move ! (0 ∷ 13 ∷ []) $ free1 ! $ move ! (0 ∷ 12 ∷ []) $ free1 ! $ move ! (0 ∷ 11 ∷ []) $ free1 ! $ move ! (0 ∷ 10 ∷ []) $ free1 ! $ move ! (0 ∷ 9 ∷ []) $ free1 ! $ move ! (0 ∷ 8 ∷ []) $ free1 ! $ move ! (0 ∷ 7 ∷ []) $ free1 ! $ move ! (0 ∷ 6 ∷ []) $ free1 ! $ move ! (0 ∷ 5 ∷ []) $ free1 ! $ move ! (0 ∷ 4 ∷ []) $ free1 ! $
+          move ! (0 ∷ 24 ∷ []) $ free1 ! $ move ! (0 ∷ 23 ∷ []) $ free1 ! $ move ! (0 ∷ 22 ∷ []) $ free1 ! $ move ! (0 ∷ 21 ∷ []) $ free1 ! $ move ! (0 ∷ 20 ∷ []) $ free1 ! $
+          move ! (0 ∷ 19 ∷ []) $ free1 ! $ move ! (0 ∷ 18 ∷ []) $ free1 ! $ move ! (0 ∷ 17 ∷ []) $ free1 ! $ move ! (0 ∷ 16 ∷ []) $ free1 ! $ move ! (0 ∷ 15 ∷ []) $ free1 ! $
+          move ! (0 ∷ 14 ∷ []) $ free1 ! $ move ! (0 ∷ 13 ∷ []) $ free1 ! $ move ! (0 ∷ 12 ∷ []) $ free1 ! $ move ! (0 ∷ 11 ∷ []) $ free1 ! $ move ! (0 ∷ 10 ∷ []) $ free1 ! $
+          move ! (0 ∷ 9 ∷ []) $ free1 ! $ move ! (0 ∷ 8 ∷ []) $ free1 ! $ move ! (0 ∷ 7 ∷ []) $ free1 ! $ move ! (0 ∷ 6 ∷ []) $ free1 ! $ move ! (0 ∷ 5 ∷ []) $ free1 ! $
+          move ! (0 ∷ 4 ∷ []) $ free1 ! $
           free0 ! $ by ! exits
 
       into : (u i : ℕ) → u + i ≡ k → ent 𝓤 (⋆ 𝓤 H A (At i)) (Inv u)
@@ -289,7 +304,9 @@ module _ {M : Type 1} (𝓤 : URA M) (H : Heap 𝓤) (A : Atoms 𝓤) (W : Given
     walk : ent 𝓤 (onEntry 𝓤 H A store-rows.signature (κ, tt) (q, tt) (rows, (c, (k, tt))) at) (WpFn 𝓤 H C Λ code.function (sv ∷ machine c ∷ vint w64 k ∷ []) Post)
     walk =
         qed W ((‵ (flft κ q) ⊛ ‵ ftrue) ∷ ‵ (owns (MutSlice (named 0) κ R ∷ TR ∷ usize ∷ []) (rows, (c, (k, tt))) at) ∷ []) ∵ enter ! C Λ code.function (sv ∷ machine c ∷ vint w64 k ∷ []) _ $
-        alloc1 ! (λ l₀. alloc1 ! (λ l₁. alloc1 ! (λ l₂. alloc1 ! (λ l₃. alloc1 ! (λ l₄. alloc1 ! (λ l₅. alloc1 ! (λ l₆. alloc1 ! (λ l₇. alloc1 ! (λ l₈. alloc1 ! (λ l₉. alloc1 ! (λ l₁₀. alloc1 ! (λ l₁₁. alloc1 ! (λ l₁₂. alloc1 ! (λ l₁₃. alloc1 ! (λ l₁₄. alloc1 ! (λ l₁₅. alloc1 ! (λ l₁₆. alloc1 ! (λ l₁₇. alloc1 ! (λ l₁₈. alloc1 ! (λ l₁₉. alloc1 ! (λ l₂₀. alloc0 ! $ params1 ! $
+        alloc1 ! (λ l₀. alloc1 ! (λ l₁. alloc1 ! (λ l₂. alloc1 ! (λ l₃. alloc1 ! (λ l₄. alloc1 ! (λ l₅. alloc1 ! (λ l₆. alloc1 ! (λ l₇. alloc1 ! (λ l₈. alloc1 ! (λ l₉.
+        alloc1 ! (λ l₁₀. alloc1 ! (λ l₁₁. alloc1 ! (λ l₁₂. alloc1 ! (λ l₁₃. alloc1 ! (λ l₁₄. alloc1 ! (λ l₁₅. alloc1 ! (λ l₁₆. alloc1 ! (λ l₁₇. alloc1 ! (λ l₁₈. alloc1 ! (λ l₁₉.
+        alloc1 ! (λ l₂₀. alloc0 ! $ params1 ! $
         -- local j stands at 40 - 2 j
         pass1 ! (init ! 38 refl (tt, (tt, (record { fits = g .0 }, tt)))) $ pass1 ! (init ! 36 refl (LL.lawful B.the-type B′.the-laws 𝓤 H A W .typed c _ p .0)) $ pass1 ! (init ! 34 refl (tt, record { fits = fits })) $ pass0 ! $
         assigns ! (of-opd ! (loads ! (from ! (stop !)) (look ! 36 refl))) (from ! (stop !)) (init ! 32 refl (LL.lawful B.the-type B′.the-laws 𝓤 H A W .typed c _ p .0)) $
@@ -303,12 +320,18 @@ module _ {M : Type 1} (𝓤 : URA M) (H : Heap 𝓤) (A : Atoms 𝓤) (W : Given
 
 module _ {M : Type 1} (𝓤 : URA M) (H : Heap 𝓤) (A : Atoms 𝓤) (W : Given 𝓤 H A) (mem : Memory → SProp 𝓤) (run : Routine → Fun 𝓤) (𝓣 : Tables 𝓤 H) where
   store-walks : Walks 𝓤 H A store-rows.ended stayed (WpFn 𝓤 H (𝓣 .C) (𝓣 .Λ) code.function) (store-rows.clauses 𝓤 H A mem run)
-  store-walks = walked 𝓤 H A store-rows.ended stayed (store-rows.clauses 𝓤 H A mem run) (WpFn 𝓤 H (𝓣 .C) (𝓣 .Λ) code.function) (λ κs. (slice-vals, (LL.vals B.the-type B′.the-laws, (uint-vals w64, tt)))) (λ κs. (mut-slice-tells (named 0) (κs .0) R, (LL.tells B.the-type B′.the-laws, (uint-tells w64, tt))))
+  store-walks =
+      walked 𝓤 H A store-rows.ended stayed (store-rows.clauses 𝓤 H A mem run) (WpFn 𝓤 H (𝓣 .C) (𝓣 .Λ) code.function)
+      (λ κs. (slice-vals, (LL.vals B.the-type B′.the-laws, (uint-vals w64, tt))))
+      (λ κs. (mut-slice-tells (named 0) (κs .0) R, (LL.tells B.the-type B′.the-laws, (uint-tells w64, tt))))
       (λ κs qs bounds a g are. needs 𝓤 _ _ (λ few.
       walk 𝓤 H A W mem run (κs .0) (qs .0) (a .0 .ptr .0) (a .0 .ptr .1) (a .0 .name) (a .0 .now) (a .1 .0) (a .1 .1 .0) 𝓣 (are .0 .0 .1) (are .1 .0) (are .1 .1 .0 .1) few))
 
   store-meets : Meets 𝓤 H A store-rows.signature (WpFn 𝓤 H (𝓣 .C) (𝓣 .Λ) code.function) (store-rows.spec 𝓤 H A mem run)
-  store-meets = walk-meets 𝓤 H A store-rows.ended stayed W (goes-slice 𝓤 H A W 1 0 tt (plain (λ _. R)), (goes-none 𝓤 H A W 1 (λ _. TR) yes (λ κs x f. refl), (goes-none 𝓤 H A W 1 (λ _. usize) yes (λ κs x f. refl), tt))) (store-rows.clauses 𝓤 H A mem run) (WpFn 𝓤 H (𝓣 .C) (𝓣 .Λ) code.function) (WpFn-mono 𝓤 H (W .laws) 𝓣 code.function) store-walks
+  store-meets =
+      walk-meets 𝓤 H A store-rows.ended stayed W
+      (goes-slice 𝓤 H A W 1 0 tt (plain (λ _. R)), (goes-none 𝓤 H A W 1 (λ _. TR) yes (λ κs x f. refl), (goes-none 𝓤 H A W 1 (λ _. usize) yes (λ κs x f. refl), tt)))
+      (store-rows.clauses 𝓤 H A mem run) (WpFn 𝓤 H (𝓣 .C) (𝓣 .Λ) code.function) (WpFn-mono 𝓤 H (W .laws) 𝓣 code.function) store-walks
 
 pub store-rows-spec : {M : Type 1} → stated.statement M
 unfolding code.routine tablesOf

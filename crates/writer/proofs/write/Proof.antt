@@ -73,7 +73,12 @@ abbrev TR : RattleType
 TR = B.the-row
 
 -- the body, as `rt mir` prints it
-body-is : code.function .body ≡ seq (assign (place 4 []) (rvOpd (copy (place 2 (field 1 ∷ []))))) (seq (call #table·load (copy (place 2 []) ∷ []) (place 5 [])) (seq (assign (place 6 []) (addrOf (place 3 (field 0 ∷ deref (tyInt w8) ∷ [])))) (seq (assign (place 7 []) (aggregate (copy (place 6 []) ∷ copy (place 3 (field 1 ∷ [])) ∷ []))) (seq (call #writer·write-columns (copy (place 1 []) ∷ copy (place 4 []) ∷ copy (place 5 []) ∷ copy (place 7 []) ∷ []) (place 0 [])) return))))
+body-is : code.function .body ≡
+    seq (assign (place 4 []) (rvOpd (copy (place 2 (field 1 ∷ [])))))
+    (seq (call #table·load (copy (place 2 []) ∷ []) (place 5 []))
+    (seq (assign (place 6 []) (addrOf (place 3 (field 0 ∷ deref (tyInt w8) ∷ []))))
+    (seq (assign (place 7 []) (aggregate (copy (place 6 []) ∷ copy (place 3 (field 1 ∷ [])) ∷ [])))
+    (seq (call #writer·write-columns (copy (place 1 []) ∷ copy (place 4 []) ∷ copy (place 5 []) ∷ copy (place 7 []) ∷ []) (place 0 [])) return))))
 body-is = refl
 
 abbrev stayed : Stays (write.ended .signature .params) (write.ended .kept)
