@@ -1,5 +1,5 @@
 //! An area of any numbers, as it comes when nobody has opened a table in it or somebody has damaged it: what every function
-//! makes of it, by the definitions of crates/edit/specs/Edit.antt.
+//! makes of it, by the definitions of crates/area/specs/Area.antt and crates/edit/specs/Edit.antt.
 
 use crate::edit::{refused, Edit};
 use crate::model::fault;

@@ -10,9 +10,10 @@ use Rattle.table.specs.declared.Row.{Row}
 use Rattle.table.specs.declared.Verdict.{Verdict}
 use Rattle.table.specs.declared.Verdict.the-variants.{Good, Refused}
 use Rattle.table.specs.Table.{refuse, rowRefusal}
+use Rattle.area.specs.declared.LinkLoad.{LinkLoad}
+use Rattle.area.specs.Area.{crosses, load, numbers, laid, areaOf, loadIn, rowIn, rowsIn, loadsIn, busiestIn}
 use Rattle.edit.specs.declared.Entry.the-variants as entry
-use Rattle.edit.specs.declared.LinkLoad.{LinkLoad}
-use Rattle.edit.specs.Edit.{crosses, load, numbers, laid, areaOf, loadIn, rowIn, rowsIn, Edit, Add, Change, Remove, firstOf, sizeRefusal, numberRefusal, refusalOf, editRefusal, aboutRow, rowNamed, verdictBy, rowsAfter, stepBy, stepFor, loadAfter, behindAfter, edited, areaAfter, entryOf, loadsIn, busiestIn}
+use Rattle.edit.specs.Edit.{Edit, Add, Change, Remove, firstOf, sizeRefusal, numberRefusal, refusalOf, editRefusal, aboutRow, rowNamed, verdictBy, rowsAfter, stepBy, stepFor, loadAfter, behindAfter, edited, areaAfter, entryOf}
 
 -- A row by source, destination and due slot; a refusal of an edit; a link and its load.
 row : (src dst due : ℕ) → Row

@@ -1,4 +1,5 @@
 -- One edit of the area of a table: a good one makes the area of the rows afterwards, count by count.
+--     load-fewer, load-changed      the load of a link, counted afresh, when row k is removed, or changed
 --     step-in, step-out      a row counted in or out
 --     load-after             the counts are those of the rows afterwards
 --     behind-after           the zeros come out right
@@ -11,18 +12,35 @@ use mathlib.Core.Path.{_≡_, refl, _∙_, ap, sym, subst}
 use Prim.Native.Nat.{ℕ, suc, _+_, _-_, _*_, _≤_, _<_}
 use native.Mathlib.Omega.{arith}
 use mathlib.Core.Bool.{Bool, true, false, cond}
-use mathlib.Core.List.{List, [], _∷_}
+use mathlib.Core.List.{List, [], _∷_, _++_}
 use borrow.Author.Tests.{eqb-true, ne-eqb}
 use lib.Dec.{eqb}
-use lib.ListN.{length, getD, drop, replicate, length-drop}
-use lib.Seq.{drop-drop}
+use lib.ListN.{length, getD, take, drop, replicate, length-drop}
+use lib.Seq.{split-at, drop-drop}
 use Rattle.table.specs.declared.Row.{Row}
 use Rattle.table.specs.Table.{most-rows}
 use Rattle.table.specs.Steps.{none}
-use Rattle.edit.specs.Edit.{most-links, crosses, load, laid, areaOf, nodesIn, countIn, loadIn, rowIn, rowsIn, Edit, Add, Change, Remove, refusalOf, editRefusal, rowsAfter, stepBy, stepFor, loadAfter, behindAfter, edited, areaAfter, rowsBy}
-use Rattle.edit.proofs.Areas.{nodes-in-area, count-in-area, load-in-area, row-in-area, rows-in-area, behind-area, laid-long, laid-ext, rows-counted}
-use Rattle.edit.proofs.Loads.{counted, load-more, load-fewer, load-changed, load-few}
+use Rattle.area.specs.Area.{most-links, crosses, load, laid, areaOf, nodesIn, countIn, loadIn, rowIn, rowsIn}
+use Rattle.area.proofs.Areas.{nodes-in-area, count-in-area, load-in-area, row-in-area, rows-in-area, behind-area, laid-long, laid-ext, rows-counted}
+use Rattle.area.proofs.Loads.{counted, load-between, load-more, load-few}
+use Rattle.edit.specs.Edit.{Edit, Add, Change, Remove, refusalOf, editRefusal, rowsAfter, stepBy, stepFor, loadAfter, behindAfter, edited, areaAfter, rowsBy}
 use Rattle.edit.proofs.Refusals.{Fits, edit-fits, countAfter, rows-after-long}
+
+-- ---- the load of link p, when row k goes or changes
+module _ (n p : ℕ) (rows : List Row) (k : ℕ) (first : 0 < k) (last : k ≤ length rows) where
+  -- A row removed is counted out.
+  pub load-fewer : load n rows p ≡ counted n (getD rows (k - 1) none) p + load n (rowsAfter rows (Remove k)) p
+  unfolding rowsAfter
+  load-fewer =
+      let old : Row = getD rows (k - 1) none in
+      let next : suc (k - 1) ≡ k = omega arith in
+      let here : rows ≡ take (k - 1) rows ++ old ∷ drop k rows = split-at rows (k - 1) none (omega arith) ∙ ap (λ (j : ℕ). take (k - 1) rows ++ old ∷ drop j rows) next in
+      ap (λ (l : List Row). load n l p) here ∙ load-between n p (take (k - 1) rows) old (drop k rows)
+
+  -- A row changed is counted out as it was, and in as it is.
+  pub load-changed : (r : Row) → counted n (getD rows (k - 1) none) p + load n (rowsAfter rows (Change k r)) p ≡ counted n r p + load n rows p
+  unfolding rowsAfter
+  load-changed r = omega (arith, load-between n p (take (k - 1) rows) r (drop k rows), load-fewer)
 
 -- ---- one count
 -- A row counted in, where the count isn't at its end.

@@ -1,7 +1,3 @@
-pub mod Areas
-pub mod Loads
-pub mod GoodRows
-pub mod Ways
 pub mod Refusals
 pub mod Editing
 pub mod Promises
@@ -10,4 +6,3 @@ mod Places
 mod Refusing
 mod Stepping
 mod Storing
-mod Reading

@@ -11,8 +11,7 @@
 --     refused-opening-leaves, refused-edit-leaves      the same of an outcome whose verdict is a refusal
 --     only-on-the-ways               an edit changes no count off the ways of its rows
 --     adding-raises, removing-lowers, changing-moves      and by how much it changes those on them
---     busiest-is-most, busiest-is-lowest      the busiest link has the largest load, and every lower link has less
---     busiest-of-edited              so the busiest link of an edited table is the lowest of those that the most rows cross
+--     busiest-of-edited              the busiest link of an edited table is the lowest of those that the most rows cross
 -- Assumes nothing.
 use mathlib.Core.Path.{_≡_, refl, _∙_, ap, sym}
 use Prim.Native.Nat.{ℕ, _+_, _-_, _≤_, _<_, min}
@@ -22,9 +21,8 @@ use mathlib.Core.List.{List, [], _∷_}
 use borrow.Author.Tests.{ne-eqb}
 use lib.Dec.{eqb}
 use lib.ListN.{length, getD}
-use Rattle.lists.specs.Lists.{build, total, largest}
-use Rattle.lists.proofs.Build.{length-build, getD-build, build-ext}
-use Rattle.lists.proofs.Figures.{at-most-largest}
+use Rattle.lists.specs.Lists.{build, total}
+use Rattle.lists.proofs.Build.{build-ext}
 use Rattle.table.specs.declared.Row.{Row}
 use Rattle.table.specs.declared.Refusal.{Refusal}
 use Rattle.table.specs.declared.Verdict.{Verdict}
@@ -32,15 +30,15 @@ use Rattle.table.specs.declared.Verdict.the-variants.{Good, Refused}
 use Rattle.table.specs.Table.{most-rows, distances, WellFormed}
 use Rattle.table.specs.Steps.{none}
 use Rattle.table.proofs.Judging.{never-good}
-use Rattle.edit.specs.declared.LinkLoad.{LinkLoad}
-use Rattle.edit.specs.Edit.{most-links, crosses, load, areaOf, nodesIn, countIn, loadIn, rowIn, rowsIn, Edit, Add, Change, Remove, sizeRefusal, editRefusal, aboutRow, verdictBy, rowsAfter, stepFor, loadAfter, behindAfter, edited, areaAfter, Opened, Edited, loadsIn, busiestIn, afterEdits, rowsBy}
-use Rattle.edit.proofs.Areas.{load-in-laid, nodes-in-area, count-in-area, load-in-area, row-in-area, rows-in-area}
-use Rattle.edit.proofs.Loads.{load-more, load-fewer, load-changed, load-few}
-use Rattle.edit.proofs.GoodRows.{AllGood, well-formed}
-use Rattle.edit.proofs.Ways.{loads-sum-to-sends}
-use Rattle.edit.proofs.Refusals.{size-of, size-fits, Fits, edit-fits, few-after, good-after}
-use Rattle.edit.proofs.Editing.{edited-area, rowsNext, area-after, keeps-next, keeps}
-use Rattle.lists.proofs.FirstPlace.{place-of, not-before, largest-there}
+use Rattle.area.specs.Area.{most-links, crosses, load, areaOf, nodesIn, countIn, loadIn, rowIn, rowsIn, loadsIn, busiestIn}
+use Rattle.area.proofs.Areas.{load-in-laid, nodes-in-area, count-in-area, load-in-area, row-in-area, rows-in-area}
+use Rattle.area.proofs.Loads.{load-more, load-few}
+use Rattle.area.proofs.GoodRows.{AllGood}
+use Rattle.area.proofs.Ways.{loads-sum-to-sends}
+use Rattle.area.proofs.Promises.{Busiest, busiest-built}
+use Rattle.edit.specs.Edit.{Edit, Add, Change, Remove, sizeRefusal, editRefusal, aboutRow, verdictBy, rowsAfter, stepFor, loadAfter, behindAfter, edited, areaAfter, Opened, Edited, afterEdits, rowsBy}
+use Rattle.edit.proofs.Refusals.{size-of, size-fits, Fits, edit-fits, few-after, good-after, well-formed}
+use Rattle.edit.proofs.Editing.{load-fewer, load-changed, edited-area, rowsNext, area-after, keeps-next, keeps}
 
 -- ---- one outcome
 -- Two outcomes of opening a table that fit its promise are equal: the verdict, and every number of the area.
@@ -208,43 +206,6 @@ only-on-the-ways s e p l off = go (eqb (editRefusal s e) 0)
     go false = refl
 
 -- ---- the busiest link
-module _ (loads : List ℕ) where
-  abbrev busiest : ℕ
-  busiest = busiestIn loads .link .0
-
-  -- The busiest link of a ring that has a link is one of its links, has the load named, and no link has more.
-  pub busiest-is-most : 0 < length loads → (busiest < length loads) × (getD loads busiest 0 ≡ busiestIn loads .load) × ((p : ℕ) → getD loads p 0 ≤ busiestIn loads .load)
-  unfolding busiestIn
-  busiest-is-most some =
-      let there = largest-there loads some in
-      let found = place-of (largest loads) loads (there .0) (there .1) in
-      (found .inside, found .here, at-most-largest loads)
-
-  -- Every lower link has less.
-  pub busiest-is-lowest : (p : ℕ) → p < busiest → getD loads p 0 < busiestIn loads .load
-  unfolding busiestIn
-  busiest-is-lowest p lower = omega (arith, at-most-largest loads p, not-before (largest loads) loads p lower)
-
--- A link of a ring of n that no other has more load than, and every lower one has less.
-pub record Busiest (n : ℕ) (loadOf : ℕ → ℕ) (top : LinkLoad) : Type 0 where
-  pub on-ring : top .link .0 < n
-  pub has-it : loadOf (top .link .0) ≡ top .load
-  pub none-more : (p : ℕ) → p < n → loadOf p ≤ top .load
-  pub lower-less : (p : ℕ) → p < top .link .0 → loadOf p < top .load
-
--- The busiest of loads that are built by a rule.
-busiest-built : (n : ℕ) (f : ℕ → ℕ) → 0 < n → Busiest n f (busiestIn (build n f))
-busiest-built n f some =
-    let at : (p : ℕ) → p < n → getD (build n f) p 0 ≡ f p = λ p l. getD-build n f p 0 l in
-    let most = busiest-is-most (build n f) (omega (arith, length-build n f)) in
-    let inside : busiest (build n f) < n = omega (arith, most .0, length-build n f) in
-    record {
-      on-ring = inside;
-      has-it = sym (at (busiest (build n f)) inside) ∙ most .1;
-      none-more = λ p l. omega (arith, at p l, most .2 p);
-      lower-less = λ p l. omega (arith, at p (omega arith), busiest-is-lowest (build n f) p l);
-    }
-
 -- The busiest link of an edited table is the lowest of those that the most rows cross, counted afresh.
 pub busiest-of-edited : (n : ℕ) (es : List Edit) → sizeRefusal n 0 ≡ 0 → Busiest n (load n (rowsIn (afterEdits (areaOf n []) es))) (busiestIn (loadsIn (afterEdits (areaOf n []) es)))
 busiest-of-edited n es opened =

@@ -1,9 +1,10 @@
--- What an edit is like that nothing is wrong with.
+-- What an edit, and a table, is like that nothing is wrong with.
 --     neither                          a first refusal of 0 is two refusals of 0
 --     size-fits, size-of               the nodes and rows of an area that isn't refused by its sizes
 --     number-fits                      a row number that is there
 --     Fits, edit-fits                  an edit that isn't refused: there is room or the row is there, and its row is good
 --     rows-after-long, few-after, good-after      how many rows there are after such an edit: few enough, and none is bad
+--     well-formed                      a table within its sizes that has no bad row is well-formed
 -- Assumes nothing.
 use mathlib.Core.Path.{_≡_, refl}
 use Prim.Native.Nat.{ℕ, suc, _-_, _≤_, _<_}
@@ -15,9 +16,11 @@ use lib.Dec.{eqb, ltb}
 use lib.ListN.{length, take, drop, length-append, length-drop}
 use lib.Seq.{length-take-le}
 use Rattle.table.specs.declared.Row.{Row}
-use Rattle.table.specs.Table.{most-rows, rowRefusal}
-use Rattle.edit.specs.Edit.{most-links, Edit, Add, Change, Remove, firstOf, sizeRefusal, numberRefusal, refusalOf, rowsAfter}
-use Rattle.edit.proofs.GoodRows.{AllGood, good-append, good-split}
+use Rattle.table.specs.declared.Verdict.the-variants.{Good, Refused}
+use Rattle.table.specs.Table.{most-rows, refuse, rowRefusal, judgeRows, judge, WellFormed}
+use Rattle.area.specs.Area.{most-links}
+use Rattle.area.proofs.GoodRows.{AllGood, judged-good, good-append, good-split}
+use Rattle.edit.specs.Edit.{Edit, Add, Change, Remove, firstOf, sizeRefusal, numberRefusal, refusalOf, rowsAfter}
 
 -- A first refusal of 0 is two refusals of 0.
 pub neither : (a b : ℕ) → firstOf a b ≡ 0 → (a ≡ 0) × (b ≡ 0)
@@ -126,3 +129,13 @@ module _ (n : ℕ) (rows : List Row) where
   good-after (Add r) h g = good-append n rows (r ∷ []) g (h .1, tt)
   good-after (Change k r) h g = good-append n (take (k - 1) rows) (r ∷ drop k rows) (good-split n (k - 1) rows g .0) (h .1, good-split n k rows g .1)
   good-after (Remove k) h g = good-append n (take (k - 1) rows) (drop k rows) (good-split n (k - 1) rows g .0) (good-split n k rows g .1)
+
+-- A table within its sizes that has no bad row is well-formed.
+pub well-formed : (n : ℕ) (rows : List Row) → sizeRefusal n (length rows) ≡ 0 → AllGood n rows → WellFormed n rows
+unfolding sizeRefusal judge
+well-formed n rows e g = go (ltb n 2 || ltb most-links n) (ltb most-rows (length rows)) e
+  where
+    go : (a b : Bool) → _≡_ {A = ℕ} (cond a 1 (cond b 2 0)) 0 → cond a (Refused (refuse 1 0 0)) (cond b (Refused (refuse 2 0 0)) (judgeRows n rows 0)) ≡ Good
+    go true b e = absurd (omega arith)
+    go false true e = absurd (omega arith)
+    go false false e = judged-good n rows 0 g

@@ -18,9 +18,11 @@ use Rattle.table.specs.declared.Row.{Row}
 use Rattle.table.specs.declared.Refusal.{Refusal}
 use Rattle.table.specs.declared.Verdict.the-variants.{Good, Refused}
 use Rattle.table.specs.Table.{most-rows, rowRefusal, refuse}
+use Rattle.area.specs.Area.{most-links, load, numbers, laid, areaOf, nodesIn, countIn, rowIn}
+use Rattle.area.specs.Steps.{room}
 use Rattle.edit.specs.declared.Entry.the-variants as entry
-use Rattle.edit.specs.Edit.{Edit, Add, Change, Remove, most-links, load, numbers, laid, areaOf, nodesIn, countIn, rowIn, firstOf, sizeRefusal, numberRefusal, refusalOf, editRefusal, aboutRow, rowNamed, verdictBy, stepBy, edited, areaAfter, Opened, Edited, entryOf}
-use Rattle.edit.specs.Steps.{room, Roomy, There}
+use Rattle.edit.specs.Edit.{Edit, Add, Change, Remove, firstOf, sizeRefusal, numberRefusal, refusalOf, editRefusal, aboutRow, rowNamed, verdictBy, stepBy, edited, areaAfter, Opened, Edited, entryOf}
+use Rattle.edit.specs.Steps.{Roomy, There}
 use Rattle.edit.proofs.Refusals.{Sized, Fits, edit-fits}
 
 pub first-is : {x a : ℕ} (b : ℕ) → x ≡ a → (x ≡ 0 → ⊥) → x ≡ firstOf a b

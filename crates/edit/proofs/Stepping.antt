@@ -16,7 +16,8 @@ use lib.Seq.{length-take-le, getD-take, getD-drop, getD-append-add}
 use Rattle.lists.specs.Lists.{build}
 use Rattle.lists.proofs.Build.{is-build, build-ext, getD-build, length-build}
 use Rattle.table.specs.declared.Row.{Row}
-use Rattle.edit.specs.Edit.{crosses, stepBy, stepFor}
+use Rattle.area.specs.Area.{crosses}
+use Rattle.edit.specs.Edit.{stepBy, stepFor}
 use Rattle.edit.specs.Steps.{steppedWay}
 
 -- an entry of a list that a rule was applied to

@@ -16,9 +16,10 @@ use Rattle.lists.proofs.Build.{length-build, build-ext, getD-build}
 use Rattle.table.specs.declared.Row.{Row}
 use Rattle.table.specs.Table.{most-rows}
 use Rattle.table.specs.Steps.{none}
-use Rattle.edit.specs.Edit.{Add, Change, Remove, numbers, laid, nodesIn, countIn, loadIn, rowIn, rowsIn, stepFor, loadAfter, rowsAfter, behindAfter, edited}
+use Rattle.area.specs.Area.{numbers, laid, nodesIn, countIn, loadIn, rowIn, rowsIn}
+use Rattle.area.proofs.Areas.{numbers-long, head, head-long, laid-is, laid-again, rows-counted}
+use Rattle.edit.specs.Edit.{Add, Change, Remove, stepFor, loadAfter, rowsAfter, behindAfter, edited}
 use Rattle.edit.specs.Steps.{steppedWay, Roomy, There}
-use Rattle.edit.proofs.Areas.{numbers-long, head, head-long, laid-is, laid-again, rows-counted}
 
 -- a part put into a list behind a front
 put-at : (p q ys : List ℕ) (a m : ℕ) → length p ≡ a → putMid a m (p ++ q) ys ≡ p ++ (ys ++ drop m q)

@@ -1,5 +1,5 @@
 -- What single steps of the code ask. No promise of an entry point mentions this; nothing here has to be believed.
-use Prim.Native.Nat.{ℕ, _+_, _*_, _≤_, _<_}
+use Prim.Native.Nat.{ℕ, _≤_, _<_}
 use mathlib.Core.Bool.{Bool}
 use mathlib.Core.Path.{_≡_}
 use mathlib.Core.List.{List}
@@ -7,19 +7,13 @@ use lib.ListN.{length, getD}
 use Rattle.lists.specs.Lists.{build}
 use Rattle.table.specs.declared.Row.{Row}
 use Rattle.table.specs.Table.{most-rows}
-use Rattle.edit.specs.Edit.{most-links, nodesIn, countIn, stepFor}
+use Rattle.area.specs.Area.{most-links, nodesIn, countIn}
+use Rattle.area.specs.Steps.{room}
+use Rattle.edit.specs.Edit.{stepFor}
 
 -- The counts of 32 links after the links of a row's way are stepped.
 unfoldable pub steppedWay : (up : Bool) → ℕ → Row → List ℕ → List ℕ
 steppedWay up n r counts = build most-links (λ p. stepFor up n r p (getD counts p 0))
-
--- Every third number of an area from a place on, 512 of them.
-unfoldable pub thirds : ℕ → List ℕ → List ℕ
-thirds at s = build most-rows (λ i. getD s (at + 3 * i) 0)
-
--- The length of a lent area.
-abbrev pub room : ℕ
-room = 1570
 
 -- An area with room for one row more.
 pub record Roomy (s : List ℕ) : Type 0 where

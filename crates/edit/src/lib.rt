@@ -1,21 +1,16 @@
 // Editing a table at the panel: rows added, changed and removed one by one in a lent area that also keeps the load of each link.
 ghost use mathlib.Core.Path.{_≡_};
-ghost use mathlib.Core.Bool.{cond};
 ghost use mathlib.Core.List.{[], _∷_, _++_, map};
-ghost use Prim.Native.Nat.{_+_, _*_, _≤_, _<_, min};
-ghost use lib.Dec.{eqb};
-ghost use lib.ListN.{length, getD, drop};
-ghost use Rattle.table.specs.Table.{refuse, rowRefusal};
-ghost use Rattle.table.specs.Steps.{listed};
-ghost use Rattle.edit.specs.Edit.{Edit, Add, Change, Remove, Opened, Edited, sizeRefusal, refusalOf, numbers, nodesIn, countIn, rowIn, rowsIn, loadsIn, stepBy, stepFor, edited, entryOf, busiestIn, rowNamed};
-ghost use Rattle.edit.specs.Steps.{Roomy, There, steppedWay, thirds};
+ghost use Prim.Native.Nat.{_≤_};
+ghost use lib.ListN.{length, drop};
+ghost use Rattle.table.specs.Table.{refuse};
+ghost use Rattle.area.specs.Area.{numbers};
+ghost use Rattle.edit.specs.Edit.{Add, Change, Remove, Opened, Edited, sizeRefusal, refusalOf, stepBy, edited, entryOf, rowNamed};
+ghost use Rattle.edit.specs.Steps.{Roomy, There, steppedWay};
+use area::lower;
+use area::row_in;
 use lists::clear;
-use lists::first_place;
-use lists::greatest;
-use lists::zeros;
-use ring::Node;
 use ring::Slot;
-use table::Columns;
 use table::Refusal;
 use table::Row;
 use table::Verdict;
@@ -25,12 +20,6 @@ use table::row_refusal;
 pub enum Entry {
     Shown(Row),
     Refused(Refusal),
-}
-
-// A link, and how many rows cross it.
-pub struct LinkLoad {
-    pub link: Node,
-    pub load: u16,
 }
 
 // What is wrong with the size of a table: 1 for its nodes, 2 for more than 512 rows, 0 where nothing is.
@@ -136,13 +125,6 @@ fn step_all(part: &mut [u16], up: bool)
     }
 }
 
-// The lower of two numbers, as a place.
-fn lower(a: u16, b: u16) -> usize
-    ensures { λ r. ⌜ r ≡ min a b ⌝ }
-{
-    if a < b { a as usize } else { b as usize }
-}
-
 // Steps the counts of the links on a row's way: one stretch of links, or two where it passes node 0.
 fn step_way(nodes: u16, row: Row, up: bool, load: &mut [u16])
     requires { ⌜ (nodes ≤ 32) × (length (now load) ≡ 32) ⌝ }
@@ -181,18 +163,6 @@ fn close_gap(part: &mut [u16])
         i += 1;
     }
     clear(&mut part[last..]);
-}
-
-// One row of an area.
-fn row_in(table: &[u16], i: usize) -> Row
-    requires { ⌜ (length (now table) ≡ 1570) × (i < 512) ⌝ }
-    ensures { λ r. ⌜ r ≡ rowIn (now (table .entry)) i ⌝ }
-{
-    Row {
-        src: table[34 + 3 * i],
-        dst: table[35 + 3 * i],
-        due: table[36 + 3 * i],
-    }
 }
 
 // Adds a row where there is room for it.
@@ -288,13 +258,6 @@ pub fn remove(table: &mut [u16; 1570], number: u16) -> Verdict
     Verdict::Good
 }
 
-// The number of rows.
-pub fn row_count(table: &[u16; 1570]) -> u16
-    ensures { λ r. ⌜ r ≡ countIn (now (table .entry)) ⌝ }
-{
-    table[1]
-}
-
 // Row `number`, or 12 where it isn't there.
 pub fn row_of(table: &[u16; 1570], number: u16) -> Entry
     ensures { λ r. ⌜ r ≡ entryOf (now (table .entry)) number ⌝ }
@@ -304,63 +267,4 @@ pub fn row_of(table: &[u16; 1570], number: u16) -> Entry
         return Entry::Refused(refusal(why, number));
     }
     Entry::Shown(row_in(table, number as usize - 1))
-}
-
-// How many rows cross a link, 0 for a link that the ring does not have.
-pub fn link_load(table: &[u16; 1570], link: Node) -> u16
-    ensures { λ r. ⌜ r ≡ getD (loadsIn (now (table .entry))) (link .0) 0 ⌝ }
-{
-    let links = lower(table[0], 32);
-    let p = link.0 as usize;
-    if p < links {
-        return table[2 + p];
-    }
-    0
-}
-
-// The busiest of a list of loads.
-fn busiest_in(loads: &[u16]) -> LinkLoad
-    requires { ⌜ length (now loads) ≤ 32 ⌝ }
-    ensures { λ r. ⌜ r ≡ busiestIn (now (loads .entry)) ⌝ }
-{
-    let load = greatest(loads);
-    let link = first_place(loads, load);
-    LinkLoad {
-        link: Node(link as u16),
-        load,
-    }
-}
-
-// The busiest link, the lowest on a tie, and its load.
-pub fn busiest(table: &[u16; 1570]) -> LinkLoad
-    ensures { λ r. ⌜ r ≡ busiestIn (loadsIn (now (table .entry))) ⌝ }
-{
-    let end = 2 + lower(table[0], 32);
-    let whole = &table[..];
-    busiest_in(&whole[2..end])
-}
-
-// Every third number of an area, from a place on.
-fn column_from(table: &[u16], at: usize) -> [u16; 512]
-    requires { ⌜ (length (now table) ≡ 1570) × (at ≤ 36) ⌝ }
-    ensures { λ r. ⌜ r ≡ thirds at (now (table .entry)) ⌝ }
-{
-    let mut column = zeros();
-    let mut i = 0;
-    while i < 512 {
-        column[i] = table[at + 3 * i];
-        i += 1;
-    }
-    column
-}
-
-// The rows by columns, as the planner takes them.
-pub fn columns_of(table: &[u16; 1570]) -> Columns
-    ensures { λ r. ⌜ listed (countIn (now (table .entry))) r ≡ rowsIn (now (table .entry)) ⌝ }
-{
-    Columns {
-        src: column_from(table, 34),
-        dst: column_from(table, 35),
-        due: column_from(table, 36),
-    }
 }

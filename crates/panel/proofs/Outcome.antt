@@ -15,8 +15,9 @@ use Rattle.text.specs.Text.{TextTaken, TextPut}
 use Rattle.table.specs.declared.Columns.{Columns}
 use Rattle.table.specs.declared.Verdict.{Verdict}
 use Rattle.table.specs.Steps.{listed}
-use Rattle.edit.specs.Edit.{Edit, Opened, Edited, areaOf, nodesIn, rowsIn, afterEdits, rowsBy}
-use Rattle.edit.proofs.Areas.{nodes-in-area, rows-in-area}
+use Rattle.area.specs.Area.{areaOf, nodesIn, rowsIn}
+use Rattle.area.proofs.Areas.{nodes-in-area, rows-in-area}
+use Rattle.edit.specs.Edit.{Edit, Opened, Edited, afterEdits, rowsBy}
 use Rattle.edit.proofs.Promises.{edits-make-rows}
 use Rattle.catalogue.specs.Catalogue as Catalogue
 use Rattle.catalogue.specs.Catalogue.{Put}

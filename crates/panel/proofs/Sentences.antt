@@ -22,9 +22,10 @@ use Rattle.text.specs.declared.Reading.{Reading}
 use Rattle.text.specs.declared.Writing.{Writing}
 use Rattle.text.specs.declared.Writing.the-variants.{Written, Refused as NotWritten}
 use Rattle.text.specs.Text.{nodes-key, rows-key, textOf, lineGood, lineRest, wrongLine, nodesIn, rowsIn, bodyOf, readingOfRows, readingOfBody, readingOf, writingOf}
+use Rattle.area.specs.Area as Area
+use Rattle.area.specs.Area.{most-links, countIn}
 use Rattle.edit.specs.declared.Entry.{Entry}
-use Rattle.edit.specs.Edit as Edits
-use Rattle.edit.specs.Edit.{most-links, countIn, aboutRow, Edit, Add, Change, Remove, firstOf, sizeRefusal, numberRefusal, refusalOf, editRefusal, verdictBy, entryOf}
+use Rattle.edit.specs.Edit.{aboutRow, Edit, Add, Change, Remove, firstOf, sizeRefusal, numberRefusal, refusalOf, editRefusal, verdictBy, entryOf}
 use Rattle.catalogue.specs.Catalogue as Catalogue
 use Rattle.catalogue.specs.Catalogue.{isIn, verdictOn}
 use Rattle.catalogue.proofs.Told.{Told, ToldVerdict, ToldWriting, either, verdict-told, put-told}
@@ -153,12 +154,12 @@ opening-has-sentence {n} d = rw (d .answers) (flat-verdict-told (verdictBy (size
 
 -- Whatever an edit answers has a sentence.
 pub edit-has-sentence : {s s′ : List ℕ} {e : Edit} {r : EditAnswer} → PanelEdited s e r s′ → Told (r .number)
-edit-has-sentence {s} {s′} {e} d = rw (d .answers) (flat-verdict-told (verdictBy (editRefusal s e) (aboutRow s e)) (by-told (editRefusal s e) (aboutRow s e) (refusal-told (Edits.nodesIn s) (countIn s) e)))
+edit-has-sentence {s} {s′} {e} d = rw (d .answers) (flat-verdict-told (verdictBy (editRefusal s e) (aboutRow s e)) (by-told (editRefusal s e) (aboutRow s e) (refusal-told (Area.nodesIn s) (countIn s) e)))
 
 -- Whatever asking for a row answers has a sentence.
 pub row-has-sentence : (s : List ℕ) (k : ℕ) → Told (flatEntry (entryOf s k) .number)
 unfolding entryOf flatEntry isIn firstPlace
-row-has-sentence s k = either (λ (x : Entry). Told (flatEntry x .number)) (eqb (editRefusal s (Remove k)) 0) refl (refusal-told (Edits.nodesIn s) (countIn s) (Remove k))
+row-has-sentence s k = either (λ (x : Entry). Told (flatEntry x .number)) (eqb (editRefusal s (Remove k)) 0) refl (refusal-told (Area.nodesIn s) (countIn s) (Remove k))
 
 -- ---- the catalogue
 -- Whatever judging a catalogue answers has a sentence.

@@ -18,11 +18,12 @@ use Rattle.text.specs.Text as Text
 use Rattle.text.specs.Text.{readingOf, rowsRead, writingOf}
 use Rattle.table.specs.declared.Verdict.{Verdict}
 use Rattle.table.specs.declared.Verdict.the-variants.{Good, Refused as NotGood}
+use Rattle.area.specs.declared.LinkLoad.{LinkLoad}
+use Rattle.area.specs.Area.{areaOf}
 use Rattle.edit.specs.declared.Entry.{Entry}
 use Rattle.edit.specs.declared.Entry.the-variants.{Shown, Refused as NotShown}
-use Rattle.edit.specs.declared.LinkLoad.{LinkLoad}
 use Rattle.edit.specs.Edit as Edit
-use Rattle.edit.specs.Edit.{Edit, sizeRefusal, editRefusal, aboutRow, verdictBy, areaOf}
+use Rattle.edit.specs.Edit.{Edit, sizeRefusal, editRefusal, aboutRow, verdictBy}
 use Rattle.catalogue.specs.Catalogue as Catalogue
 use Rattle.catalogue.specs.Catalogue.{numbers, fields, verdictOn, isIn, sentence, labelOf}
 use Rattle.panel.specs.declared.PlanAnswer.{PlanAnswer}

@@ -1,7 +1,8 @@
 // The panel's way in: each function is thin over a proved entry point, and is called from C or Rust by its plain name.
 ghost use mathlib.Core.Path.{_≡_};
 ghost use lib.ListN.{getD};
-ghost use Rattle.edit.specs.Edit.{Add, Change, Remove, countIn, nodesIn, rowsIn, loadsIn, entryOf, busiestIn};
+ghost use Rattle.area.specs.Area.{countIn, nodesIn, rowsIn, loadsIn, busiestIn};
+ghost use Rattle.edit.specs.Edit.{Add, Change, Remove, entryOf};
 ghost use Rattle.panel.specs.Panel.{flatOf, flatReading, flatWriting, flatVerdict, flatEntry, flatLink, flatSentence, PanelPlanned, PanelRead, PanelWritten, PanelOpened, PanelEdited, PanelSentence, PanelLabel};
 ghost use Rattle.catalogue.specs.Catalogue.{verdictOn};
 use edit::Entry;
@@ -268,7 +269,7 @@ pub extern "C" fn garboardle_remove(table: &mut [u16; 1570], number: u16) -> Edi
 pub extern "C" fn garboardle_row_count(table: &[u16; 1570]) -> u16
     ensures { λ r. ⌜ r ≡ countIn (now (table .entry)) ⌝ }
 {
-    edit::row_count(table)
+    area::row_count(table)
 }
 
 // Row `number` of an open table.
@@ -284,7 +285,7 @@ pub extern "C" fn garboardle_row_of(table: &[u16; 1570], number: u16) -> RowAnsw
 pub extern "C" fn garboardle_link_load(table: &[u16; 1570], link: u16) -> u16
     ensures { λ r. ⌜ r ≡ getD (loadsIn (now (table .entry))) link 0 ⌝ }
 {
-    edit::link_load(table, Node(link))
+    area::link_load(table, Node(link))
 }
 
 // The busiest link of an open table.
@@ -292,7 +293,7 @@ pub extern "C" fn garboardle_link_load(table: &[u16; 1570], link: u16) -> u16
 pub extern "C" fn garboardle_busiest(table: &[u16; 1570]) -> LinkAnswer
     ensures { λ r. ⌜ r ≡ flatLink (busiestIn (loadsIn (now (table .entry)))) ⌝ }
 {
-    let busiest = edit::busiest(table);
+    let busiest = area::busiest(table);
     LinkAnswer {
         link: busiest.link.0,
         load: busiest.load,
@@ -308,8 +309,8 @@ pub extern "C" fn garboardle_plan_table(
 ) -> PlanAnswer
     ensures { λ r. ⌜ PanelPlanned (nodesIn (now (table .entry))) (rowsIn (now (table .entry))) (now (plan .entry)) (now (arrivals .entry)) r (now (plan .exit)) (now (arrivals .exit)) ⌝ }
 {
-    let rows = edit::row_count(table) as usize;
-    let columns = edit::columns_of(table);
+    let rows = area::row_count(table) as usize;
+    let columns = area::columns_of(table);
     let answer = planner::plan_columns(table[0], rows, columns, plan, arrivals);
     flat(answer)
 }

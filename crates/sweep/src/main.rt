@@ -259,7 +259,7 @@ fn table_area() -> [u16; 1570] {
 fn print_loads(table: &[u16; 1570]) {
     let mut p = 0;
     while p < 4 {
-        print_line(b"load", wide(edit::link_load(table, Node(p))));
+        print_line(b"load", wide(area::link_load(table, Node(p))));
         p += 1;
     }
 }
@@ -273,9 +273,9 @@ fn print_edit(name: &[u8], verdict: Verdict, table: &[u16; 1570]) {
         Verdict::Good => print_answer(0, 0, 0),
         Verdict::Refused(r) => print_answer(r.number, r.row, r.slot.0),
     }
-    print_line(b"rows", wide(edit::row_count(table)));
+    print_line(b"rows", wide(area::row_count(table)));
     print_loads(table);
-    let busiest = edit::busiest(table);
+    let busiest = area::busiest(table);
     print_line(b"busiest", wide(busiest.link.0));
     print_line(b"most", wide(busiest.load));
 }
@@ -302,8 +302,8 @@ fn run_changing(table: &mut [u16; 1570]) {
 fn run_edited(table: &[u16; 1570]) {
     let mut plan = plan_area();
     let mut arrivals = arrivals_area();
-    let rows = edit::row_count(table) as usize;
-    let columns = edit::columns_of(table);
+    let rows = area::row_count(table) as usize;
+    let columns = area::columns_of(table);
     let answer = plan_columns(table[0], rows, columns, &mut plan, &mut arrivals);
     print_areas(4, answer, &plan, &arrivals);
 }

@@ -1,8 +1,9 @@
 -- `edit::add` meets its contract: the first refusal is given, or the row is added.
 -- Assumes nothing.
 use borrow.Author.Needs.{needs}
+use Rattle.area.specs.Area.{nodesIn, countIn}
 use Rattle.edit.proofs.Refusing.{refused-edit, good-edit, coming-number, add-roomy, why-none}
-use Rattle.edit.specs.Edit.{Add, nodesIn, countIn, aboutRow}
+use Rattle.edit.specs.Edit.{Add, aboutRow}
 use Rattle.edit.proofs.add.Statement.{statement}
 use Rattle.edit.proofs.add.Tie as tie
 

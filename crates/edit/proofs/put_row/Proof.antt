@@ -1,8 +1,8 @@
 -- `edit::put_row` meets its contract: three stores fill a list of three.
 -- Assumes nothing.
 use borrow.Author.Needs.{needs}
+use Rattle.area.specs.Area.{numbers}
 use Rattle.edit.proofs.Places.{three-set}
-use Rattle.edit.specs.Edit.{numbers}
 use Rattle.edit.proofs.put_row.Statement.{statement}
 use Rattle.edit.proofs.put_row.Tie as tie
 

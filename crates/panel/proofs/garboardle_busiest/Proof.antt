@@ -1,4 +1,4 @@
--- `panel::garboardle_busiest` meets its contract: what `edit::busiest` gives, as plain numbers.
+-- `panel::garboardle_busiest` meets its contract: what `area::busiest` gives, as plain numbers.
 -- Assumes nothing.
 use mathlib.Core.Path.{ap}
 use borrow.Author.Needs.{needs}

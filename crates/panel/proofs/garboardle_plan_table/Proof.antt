@@ -1,7 +1,7 @@
 -- `panel::garboardle_plan_table` meets its contract: the columns of the area hold its rows, and planning them is planning those.
 -- Assumes nothing.
 use borrow.Author.Needs.{needs}
-use Rattle.edit.specs.Edit.{nodesIn}
+use Rattle.area.specs.Area.{nodesIn}
 use Rattle.panel.proofs.Outcome.{held-planned}
 use Rattle.panel.proofs.garboardle_plan_table.Statement.{statement}
 use Rattle.panel.proofs.garboardle_plan_table.Tie as tie

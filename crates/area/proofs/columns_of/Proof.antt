@@ -1,9 +1,9 @@
--- `edit::columns_of` meets its contract: each column is every third number of the area.
+-- `area::columns_of` meets its contract: each column is every third number of the area.
 -- Assumes nothing.
 use borrow.Author.Needs.{needs}
-use Rattle.edit.proofs.Reading.{listed-columns}
-use Rattle.edit.proofs.columns_of.Statement.{statement}
-use Rattle.edit.proofs.columns_of.Tie as tie
+use Rattle.area.proofs.Reading.{listed-columns}
+use Rattle.area.proofs.columns_of.Statement.{statement}
+use Rattle.area.proofs.columns_of.Tie as tie
 
 column-from-requires : tie.Need-column-from-requires
 column-from-requires c κs = search needs

@@ -1,11 +1,11 @@
--- `edit::busiest_in` meets its contract: the largest load, and its first place.
+-- `area::busiest_in` meets its contract: the largest load, and its first place.
 -- Assumes nothing.
 use native.Mathlib.Omega.{arith}
 use borrow.Author.Needs.{needs}
 use Rattle.lists.proofs.FirstPlace.{place-fits}
-use Rattle.edit.specs.Edit.{busiestIn}
-use Rattle.edit.proofs.busiest_in.Statement.{statement}
-use Rattle.edit.proofs.busiest_in.Tie as tie
+use Rattle.area.specs.Area.{busiestIn}
+use Rattle.area.proofs.busiest_in.Statement.{statement}
+use Rattle.area.proofs.busiest_in.Tie as tie
 
 greatest-requires : tie.Need-greatest-requires
 greatest-requires c κs = search needs

@@ -1,19 +1,17 @@
--- The load of a link, counted afresh, when a row comes, goes or changes.
+-- The load of a link, counted afresh, when rows come.
+--     counted                      what one row adds to a load
 --     load-append                  two lists of rows, one behind the other
---     load-more                    one row more at the end
---     load-changed, load-fewer     row k changed, or removed
+--     load-between, load-more      one row more between others, or at the end
 --     load-few                     no load is above the number of rows
 -- Assumes nothing.
-use mathlib.Core.Path.{_≡_, refl, _∙_, ap}
-use Prim.Native.Nat.{ℕ, suc, _+_, _-_, _≤_, _<_}
+use mathlib.Core.Path.{_≡_, refl, _∙_}
+use Prim.Native.Nat.{ℕ, suc, _+_, _≤_}
 use native.Mathlib.Omega.{arith}
 use mathlib.Core.Bool.{Bool, true, false, cond}
 use mathlib.Core.List.{List, [], _∷_, _++_, append-nil}
-use lib.ListN.{length, getD, take, drop}
-use lib.Seq.{split-at}
+use lib.ListN.{length}
 use Rattle.table.specs.declared.Row.{Row}
-use Rattle.table.specs.Steps.{none}
-use Rattle.edit.specs.Edit.{crosses, load, Change, Remove, rowsAfter}
+use Rattle.area.specs.Area.{crosses, load}
 
 -- What one row adds to the load of link p.
 abbrev pub counted : ℕ → Row → ℕ → ℕ
@@ -32,7 +30,7 @@ module _ (n p : ℕ) where
   load-append (r ∷ xs) ys = omega (arith, load-append xs ys)
 
   -- A row put between two lists of rows is counted in.
-  load-between : (xs : List Row) (r : Row) (ys : List Row) → load n (xs ++ r ∷ ys) p ≡ counted n r p + load n (xs ++ ys) p
+  pub load-between : (xs : List Row) (r : Row) (ys : List Row) → load n (xs ++ r ∷ ys) p ≡ counted n r p + load n (xs ++ ys) p
   load-between xs r ys = omega (arith, load-append xs (r ∷ ys), load-cons r ys, load-append xs ys)
 
   -- A row added at the end is counted in.
@@ -48,18 +46,3 @@ module _ (n p : ℕ) where
       go : (b : Bool) → load n rows p ≤ length rows → cond b 1 0 + load n rows p ≤ suc (length rows)
       go true h = omega arith
       go false h = omega arith
-
-  module _ (rows : List Row) (k : ℕ) (first : 0 < k) (last : k ≤ length rows) where
-    -- A row removed is counted out.
-    pub load-fewer : load n rows p ≡ counted n (getD rows (k - 1) none) p + load n (rowsAfter rows (Remove k)) p
-    unfolding rowsAfter
-    load-fewer =
-        let old : Row = getD rows (k - 1) none in
-        let next : suc (k - 1) ≡ k = omega arith in
-        let here : rows ≡ take (k - 1) rows ++ old ∷ drop k rows = split-at rows (k - 1) none (omega arith) ∙ ap (λ (j : ℕ). take (k - 1) rows ++ old ∷ drop j rows) next in
-        ap (λ (l : List Row). load n l p) here ∙ load-between (take (k - 1) rows) old (drop k rows)
-
-    -- A row changed is counted out as it was, and in as it is.
-    pub load-changed : (r : Row) → counted n (getD rows (k - 1) none) p + load n (rowsAfter rows (Change k r)) p ≡ counted n r p + load n rows p
-    unfolding rowsAfter
-    load-changed r = omega (arith, load-between (take (k - 1) rows) r (drop k rows), load-fewer)

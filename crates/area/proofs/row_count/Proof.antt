@@ -1,9 +1,9 @@
--- `edit::row_count` meets its contract: one read.
+-- `area::row_count` meets its contract: one read.
 -- Assumes nothing.
 use mathlib.Core.Path.{refl}
 use borrow.Author.Needs.{needs}
-use Rattle.edit.proofs.row_count.Statement.{statement}
-use Rattle.edit.proofs.row_count.Tie as tie
+use Rattle.area.proofs.row_count.Statement.{statement}
+use Rattle.area.proofs.row_count.Tie as tie
 
 element-copy-out-result : tie.Need-element-copy-out-result
 element-copy-out-result c = search needs

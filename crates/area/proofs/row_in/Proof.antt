@@ -1,10 +1,10 @@
--- `edit::row_in` meets its contract: three reads.
+-- `area::row_in` meets its contract: three reads.
 -- Assumes nothing.
 use mathlib.Core.Path.{refl}
 use borrow.Author.Needs.{needs}
-use Rattle.edit.specs.Edit.{rowIn}
-use Rattle.edit.proofs.row_in.Statement.{statement}
-use Rattle.edit.proofs.row_in.Tie as tie
+use Rattle.area.specs.Area.{rowIn}
+use Rattle.area.proofs.row_in.Statement.{statement}
+use Rattle.area.proofs.row_in.Tie as tie
 
 mul-t3 : tie.Need-mul-t3
 mul-t3 c = search needs

@@ -19,7 +19,7 @@ use Rattle.lists.proofs.Build.{length-build, getD-build, build-ext, build-of}
 use Rattle.table.specs.declared.Row.{Row}
 use Rattle.table.specs.Table.{most-rows}
 use Rattle.table.specs.Steps.{none}
-use Rattle.edit.specs.Edit.{most-links, load, numbers, laid, areaOf, nodesIn, countIn, loadIn, rowIn, rowsIn}
+use Rattle.area.specs.Area.{most-links, load, numbers, laid, areaOf, nodesIn, countIn, loadIn, rowIn, rowsIn}
 
 -- ---- plain lists
 module _ {ℓ} {A : Type ℓ} where

@@ -1,4 +1,4 @@
--- `edit::column_from` meets its contract: after i turns the first i entries are filled.
+-- `area::column_from` meets its contract: after i turns the first i entries are filled.
 -- Assumes nothing.
 use lib.ListN.{length-set, length, getD}
 use mathlib.Core.Path.{_≡_, _∙_, refl}
@@ -6,9 +6,9 @@ use Prim.Native.Nat.{_+_, _*_, _≤_, _-_}
 use native.Mathlib.Omega.{arith}
 use borrow.Author.Needs.{needs}
 use Rattle.lists.proofs.Filling.{filled-more, filled-whole, filled}
-use Rattle.edit.specs.Steps.{thirds}
-use Rattle.edit.proofs.column_from.Statement.{statement}
-use Rattle.edit.proofs.column_from.Tie as tie
+use Rattle.area.specs.Steps.{thirds}
+use Rattle.area.proofs.column_from.Statement.{statement}
+use Rattle.area.proofs.column_from.Tie as tie
 
 abbrev Inv-loop : tie.InvT-loop
 Inv-loop table at column₀ i₀ column i = (i ≤ 512) × (length column ≡ 512) × (length column₀ ≡ 512) × (column ≡ filled (λ j. getD table (at + 3 * j) 0) column₀ i)

@@ -1,11 +1,11 @@
--- `edit::busiest` meets its contract: the loads are lent as one part of the area.
+-- `area::busiest` meets its contract: the loads are lent as one part of the area.
 -- Assumes nothing.
 use mathlib.Core.Path.{_∙_, ap}
 use borrow.Author.Needs.{needs}
-use Rattle.edit.proofs.Reading.{loads-part}
-use Rattle.edit.specs.Edit.{busiestIn}
-use Rattle.edit.proofs.busiest.Statement.{statement}
-use Rattle.edit.proofs.busiest.Tie as tie
+use Rattle.area.proofs.Reading.{loads-part}
+use Rattle.area.specs.Area.{busiestIn}
+use Rattle.area.proofs.busiest.Statement.{statement}
+use Rattle.area.proofs.busiest.Tie as tie
 
 element-copy-out-lower : tie.Need-element-copy-out-lower
 element-copy-out-lower c = search needs

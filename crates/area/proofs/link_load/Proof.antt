@@ -1,9 +1,9 @@
--- `edit::link_load` meets its contract: one read, for a link that the ring has.
+-- `area::link_load` meets its contract: one read, for a link that the ring has.
 -- Assumes nothing.
 use borrow.Author.Needs.{needs}
-use Rattle.edit.proofs.Reading.{load-there, load-none}
-use Rattle.edit.proofs.link_load.Statement.{statement}
-use Rattle.edit.proofs.link_load.Tie as tie
+use Rattle.area.proofs.Reading.{load-there, load-none}
+use Rattle.area.proofs.link_load.Statement.{statement}
+use Rattle.area.proofs.link_load.Tie as tie
 
 element-copy-out-lower : tie.Need-element-copy-out-lower
 element-copy-out-lower c = search needs

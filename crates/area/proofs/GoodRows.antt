@@ -2,7 +2,8 @@
 --     AllGood                          no row of the list is bad
 --     good-row                         what a row is that isn't bad
 --     good-append, good-split          two such lists in one, and the two parts of one
---     well-formed, all-good            a table within its sizes is well-formed exactly if it has no bad row
+--     judged-good                      such a list is judged good
+--     all-good                         a well-formed table has no bad row
 -- Assumes nothing.
 use mathlib.Core.Path.{_≡_, refl, sym, subst}
 use Prim.Native.Nat.{ℕ, suc}
@@ -16,7 +17,7 @@ use Rattle.table.specs.declared.Row.{Row}
 use Rattle.table.specs.declared.Verdict.the-variants.{Good, Refused}
 use Rattle.table.specs.Table.{most-rows, refuse, rowRefusal, judgeRows, judge, WellFormed}
 use Rattle.table.proofs.Judging.{GoodRow, good-rows, never-good}
-use Rattle.edit.specs.Edit.{most-links, sizeRefusal}
+use Rattle.area.specs.Area.{most-links}
 
 -- No row of the list is bad.
 unfoldable pub AllGood : ℕ → List Row → Type 0
@@ -25,7 +26,7 @@ AllGood n (r ∷ rows) = (rowRefusal n r ≡ 0) × AllGood n rows
 
 module _ (n : ℕ) where
   -- Rows of which none is bad are judged good.
-  judged-good : (rows : List Row) (above : ℕ) → AllGood n rows → judgeRows n rows above ≡ Good
+  pub judged-good : (rows : List Row) (above : ℕ) → AllGood n rows → judgeRows n rows above ≡ Good
   unfolding AllGood judgeRows
   judged-good [] above g = refl
   judged-good (r ∷ rows) above g = rw (g .0) (judged-good rows (suc above) (g .1))
@@ -61,16 +62,6 @@ module _ (n : ℕ) where
   -- The rows above a place, and those from it on.
   pub good-split : (i : ℕ) (rows : List Row) → AllGood n rows → AllGood n (take i rows) × AllGood n (drop i rows)
   good-split i rows g = good-parts (take i rows) (drop i rows) (subst (AllGood n) (sym (take-append-drop i rows)) g)
-
-  -- A table within its sizes that has no bad row is well-formed.
-  pub well-formed : (rows : List Row) → sizeRefusal n (length rows) ≡ 0 → AllGood n rows → WellFormed n rows
-  unfolding sizeRefusal judge
-  well-formed rows e g = go (ltb n 2 || ltb most-links n) (ltb most-rows (length rows)) e
-    where
-      go : (a b : Bool) → _≡_ {A = ℕ} (cond a 1 (cond b 2 0)) 0 → cond a (Refused (refuse 1 0 0)) (cond b (Refused (refuse 2 0 0)) (judgeRows n rows 0)) ≡ Good
-      go true b e = absurd (omega arith)
-      go false true e = absurd (omega arith)
-      go false false e = judged-good rows 0 g
 
   -- A well-formed table has no bad row.
   pub all-good : (rows : List Row) → WellFormed n rows → AllGood n rows

@@ -18,9 +18,9 @@ use Rattle.ring.proofs.Turn.{short-of-zero, past-zero}
 use Rattle.table.specs.declared.Row.{Row}
 use Rattle.table.specs.Table.{distances, WellFormed}
 use Rattle.table.proofs.Judging.{GoodRow}
-use Rattle.edit.specs.Edit.{crosses, load}
-use Rattle.edit.proofs.Loads.{counted}
-use Rattle.edit.proofs.GoodRows.{AllGood, good-row, all-good}
+use Rattle.area.specs.Area.{crosses, load}
+use Rattle.area.proofs.Loads.{counted}
+use Rattle.area.proofs.GoodRows.{AllGood, good-row, all-good}
 
 -- Two tests of numbers that lie equally far apart.
 same-gap : (a b c d : ℕ) → a + d ≡ c + b → ltb a b ≡ ltb c d

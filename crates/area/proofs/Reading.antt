@@ -17,8 +17,8 @@ use lib.Seq.{getD-take, getD-drop}
 use Rattle.lists.proofs.Build.{length-build, getD-build, is-build, build-ext}
 use Rattle.table.specs.Table.{most-rows}
 use Rattle.table.specs.Steps.{listed}
-use Rattle.edit.specs.Edit.{most-links, nodesIn, countIn, loadIn, loadsIn, rowIn, rowsIn}
-use Rattle.edit.specs.Steps.{thirds, room}
+use Rattle.area.specs.Area.{most-links, nodesIn, countIn, loadIn, loadsIn, rowIn, rowsIn}
+use Rattle.area.specs.Steps.{thirds, room}
 
 module _ (s : List ℕ) (m : ℕ) (most : m ≡ min (nodesIn s) most-links) where
   pub load-there : (p : ℕ) → p < m → getD s (2 + p) 0 ≡ getD (loadsIn s) p 0

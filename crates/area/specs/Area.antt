@@ -1,0 +1,61 @@
+-- A table as it lies in its lent area, and what is asked of it: document 02, Ask 2. The panel lends one area of 1,570 numbers: the number of nodes, the number of rows, the load of each of 32 links, and three numbers for each of 512 rows.
+use Prim.Native.Nat.{ℕ, _+_, _-_, _*_, min}
+use mathlib.Core.Bool.{Bool, cond, _||_, _&&_}
+use mathlib.Core.List.{List, [], _∷_, _++_}
+use lib.Dec.{ltb, leb}
+use lib.ListN.{length, getD, replicate}
+use Rattle.lists.specs.Lists.{build, largest, firstPlace}
+use Rattle.table.specs.declared.Row.{Row}
+use Rattle.table.specs.Table.{most-rows}
+use Rattle.area.specs.declared.LinkLoad.{LinkLoad}
+
+-- The most links that a ring may have.
+abbrev pub most-links : ℕ
+most-links = 32
+
+-- Link p lies on a row's way: from its source up to its destination, round node 0 where that is not above the source.
+unfoldable pub crosses : ℕ → Row → ℕ → Bool
+crosses n r p =
+    ltb p n && cond (ltb (r .src) (r .dst)) (leb (r .src) p && ltb p (r .dst)) (leb (r .src) p || ltb p (r .dst))
+
+-- The load of link p: how many rows cross it, counted afresh.
+unfoldable pub load : ℕ → List Row → ℕ → ℕ
+load n [] p = 0
+load n (r ∷ rows) p = cond (crosses n r p) 1 0 + load n rows p
+
+-- The numbers of a list of rows, three for each.
+unfoldable pub numbers : List Row → List ℕ
+numbers [] = []
+numbers (r ∷ rows) = r .src ∷ r .dst ∷ r .due ∷ numbers rows
+
+-- An area laid out: nodes, number of rows, loads, rows, and what stands behind them.
+unfoldable pub laid : (n : ℕ) (loads : ℕ → ℕ) (rows : List Row) (behind : List ℕ) → List ℕ
+laid n loads rows behind = n ∷ length rows ∷ (build most-links loads ++ (numbers rows ++ behind))
+
+-- The area of a table: its loads are those of its rows, and zeros stand behind them.
+unfoldable pub areaOf : ℕ → List Row → List ℕ
+areaOf n rows = laid n (load n rows) rows (replicate (3 * (most-rows - length rows)) 0)
+
+-- What an area holds, read place by place.
+abbrev pub nodesIn : List ℕ → ℕ
+nodesIn s = getD s 0 0
+
+abbrev pub countIn : List ℕ → ℕ
+countIn s = getD s 1 0
+
+unfoldable pub loadIn : List ℕ → ℕ → ℕ
+loadIn s p = getD s (2 + p) 0
+
+unfoldable pub rowIn : List ℕ → ℕ → Row
+rowIn s i = record { src = getD s (34 + 3 * i) 0; dst = getD s (35 + 3 * i) 0; due = getD s (36 + 3 * i) 0 }
+
+unfoldable pub rowsIn : List ℕ → List Row
+rowsIn s = build (countIn s) (rowIn s)
+
+-- The loads of the ring's links.
+unfoldable pub loadsIn : List ℕ → List ℕ
+loadsIn s = build (min (nodesIn s) most-links) (loadIn s)
+
+-- The busiest of a list of loads: the lowest link of those with the largest load, and that load.
+unfoldable pub busiestIn : List ℕ → LinkLoad
+busiestIn loads = record { link = record { 0 = firstPlace (largest loads) loads }; load = largest loads }
