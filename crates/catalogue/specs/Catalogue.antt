@@ -4,19 +4,19 @@ use mathlib.Core.Path.{_≡_}
 use mathlib.Core.Bool.{Bool, true, false, cond, _&&_, _||_}
 use mathlib.Core.List.{List, [], _∷_, _++_, map}
 use lib.Dec.{eqb, ltb, leb}
-use Rattle.lists.specs.Lists.{firstPlace}
 use lib.ListN.{length, getD, take, drop}
-use Rattle.text.specs.Text.{line-feed, numeral, starts}
+use Rattle.lists.specs.Lists.{firstPlace}
 use Rattle.table.specs.Table.{refuse}
 use Rattle.table.specs.declared.Refusal.{Refusal}
 use Rattle.table.specs.declared.Verdict.{Verdict}
 use Rattle.table.specs.declared.Verdict.the-variants.{Good, Refused}
 use Rattle.planner.specs.declared.Answer.{Answer}
 use Rattle.planner.specs.declared.Answer.the-variants.{Accepted, Refused as Turned}
+use Rattle.text.specs.Text.{line-feed, numeral, starts}
 use Rattle.text.specs.declared.Writing.{Writing}
 use Rattle.text.specs.declared.Writing.the-variants.{Written, Refused as NotWritten}
 
--- The numbers that have a sentence, ascending: 0 for acceptance, then every refusal. A new refusal joins here, and nowhere else.
+-- The numbers that have a sentence, ascending: 0 for acceptance, then every refusal. Among the definitions a new refusal joins here alone.
 abbrev pub numbers : List ℕ
 numbers = 0 ∷ 1 ∷ 2 ∷ 3 ∷ 4 ∷ 5 ∷ 6 ∷ 7 ∷ 8 ∷ 9 ∷ 12 ∷ 20 ∷ 21 ∷ 22 ∷ 30 ∷ 31 ∷ 32 ∷ 33 ∷ []
 
@@ -36,11 +36,12 @@ keys = map (keyOf 114) numbers ++ map (keyOf 102) fields
 abbrev pub longest-string : ℕ
 longest-string = 96
 
--- A string: 1 to 96 bytes, none of them a line feed.
+-- None of the bytes is a line feed.
 unfoldable pub noFeed : List ℕ → Bool
 noFeed [] = true
 noFeed (b ∷ bs) = cond (eqb b line-feed) false (noFeed bs)
 
+-- A string: 1 to 96 bytes, none of them a line feed.
 unfoldable pub isString : List ℕ → Bool
 isString s = leb 1 (length s) && (leb (length s) longest-string && noFeed s)
 
@@ -62,15 +63,17 @@ pub record IsCatalogue (text : List ℕ) : Type 0 where
   pub so : text ≡ textOf keys strings
   pub distinct : Distinct (drop (length numbers) strings)
 
--- The bytes before the first line feed, whether there is one, and the bytes behind it.
+-- The bytes before the first line feed, or all where there is none.
 unfoldable pub firstLine : List ℕ → List ℕ
 firstLine [] = []
 firstLine (b ∷ bs) = cond (eqb b line-feed) [] (b ∷ firstLine bs)
 
+-- Whether there is a line feed.
 unfoldable pub isEnded : List ℕ → Bool
 isEnded [] = false
 isEnded (b ∷ bs) = eqb b line-feed || isEnded bs
 
+-- The bytes behind the first line feed.
 unfoldable pub behindLine : List ℕ → List ℕ
 behindLine [] = []
 behindLine (b ∷ bs) = cond (eqb b line-feed) bs (behindLine bs)
@@ -107,6 +110,7 @@ same [] (y ∷ ys) = false
 same (x ∷ xs) [] = false
 same (x ∷ xs) (y ∷ ys) = eqb x y && same xs ys
 
+-- Whether a string equals one of a list.
 unfoldable pub among : List ℕ → List (List ℕ) → Bool
 among s [] = false
 among s (t ∷ ts) = same s t || among s ts
@@ -125,11 +129,12 @@ unfoldable pub repeatedLine : List ℕ → ℕ
 repeatedLine text =
     let repeat = firstRepeat (labelsIn text) (length fields) 0 in cond (eqb repeat 0) 0 (length numbers + repeat)
 
--- The verdict on a catalogue: the first bad line decides, and 32 comes after all lines.
+-- 32 comes after all lines, and names the first that repeats a label.
 unfoldable pub afterLines : Verdict → List ℕ → Verdict
 afterLines Good text = cond (eqb (repeatedLine text) 0) Good (Refused (refuse 32 (repeatedLine text) 0))
 afterLines (Refused r) text = Refused r
 
+-- The verdict on a catalogue: the first bad line decides, then equal labels.
 unfoldable pub verdictOn : List ℕ → Verdict
 verdictOn text = afterLines (linesVerdict keys 0 text) text
 
@@ -174,9 +179,10 @@ pub record Put (text : List ℕ) (found : Bool) (bytes area : List ℕ) (w : Wri
   pub answers : w ≡ afterVerdict (verdictOn text) found bytes (length area)
   pub fills : area′ ≡ areaAfter w bytes area
 
--- The full outcome of writing a sentence, and of writing a label.
+-- The full outcome of writing a sentence.
 abbrev pub SentencePut : (text : List ℕ) (number row slot : ℕ) (area : List ℕ) → Writing → List ℕ → Type 0
 SentencePut text number row slot = Put text (isIn number numbers) (sentence text number row slot)
 
+-- The full outcome of writing a label.
 abbrev pub LabelPut : (text : List ℕ) (field : ℕ) (area : List ℕ) → Writing → List ℕ → Type 0
 LabelPut text field = Put text (isIn field fields) (labelOf text field)

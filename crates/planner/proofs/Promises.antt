@@ -154,7 +154,7 @@ module _ {n : ℕ} {rows : List Row} {plan arrivals plan′ arrivals′ : List �
       lowest zero f some = absurd (some refl)
       lowest (suc i) f some = (i, refl, late-lowest T t (stateAt T start t) i (sym f))
 
-distances-long : (n : ℕ) (rows : List Row) → length (distances n rows) ≡ length rows
+pub distances-long : (n : ℕ) (rows : List Row) → length (distances n rows) ≡ length rows
 unfolding distances
 distances-long n rows = length-map rows _
 

@@ -4,21 +4,17 @@ use mathlib.Core.Path.{_≡_, _∙_, ap, sym}
 use mathlib.Core.Bool.{false}
 use mathlib.Core.List.{List}
 use Prim.Native.Nat.{ℕ, _≤_, _<_}
-use native.Mathlib.Omega.{arith}
 use borrow.Author.Tests.{lt-ltb, le-ltb, ne-eqb}
 use lib.ListN.{drop}
 use Rattle.table.specs.Table.{refuse}
 use Rattle.table.specs.Steps.{columns}
 use Rattle.table.specs.declared.Refusal.{Refusal}
-use Rattle.text.specs.declared.Header.{Header}
 use Rattle.text.specs.declared.Reading.{Reading}
 use Rattle.text.specs.declared.Reading.the-variants.{Read, Refused}
 use Rattle.text.specs.Text.{nodes-key, rows-key, lineGood, nodesIn, rowsIn, bodyOf, readingOfRows, readingOfBody, readingOf, rowsRead}
+use Rattle.text.proofs.RoundTrip.{refused-not}
 use Rattle.reader.specs.Steps.{RowsTaken, TextRead}
 use Rattle.reader.proofs.Rows.{Seen}
-
-refused-not : (r : Refusal) (h : Header) → Refused r ≡ Read h → ⊥
-refused-not r h e = let z : _≡_ {A = ℕ} 0 1 = cc in omega arith
 
 -- a reading that is refused
 pub refused-read : (text : List ℕ) (lent : ℕ) (src dst due : List ℕ) (answer : Reading) (r : Refusal) → answer ≡ Refused r → Refused r ≡ readingOf text lent → TextRead text lent answer src dst due

@@ -1,8 +1,8 @@
 -- A table that is accepted: how large it is, and where its plan and its arrivals stand.
 -- Assumes nothing.
 use mathlib.Core.Path.{_≡_, refl, _∙_, ap, sym}
-use mathlib.Core.List.{List, [], _∷_, _++_}
-use Prim.Native.Nat.{ℕ, suc, _*_, _≤_}
+use mathlib.Core.List.{List, _++_}
+use Prim.Native.Nat.{ℕ, _*_, _≤_}
 use native.Mathlib.Nat.{mul-le-mul, mul-comm}
 use native.Mathlib.Omega.{arith}
 use lib.ListN.{length, take, drop, length-append}
@@ -25,15 +25,10 @@ use Rattle.planner.specs.Planner.{trafficOf, thePlan, theArrivals, answerToRows
 use Rattle.planner.proofs.Answering.{arrivals-long}
 use Rattle.planner.proofs.Good.{soon}
 use Rattle.planner.proofs.Judged.{Sound, sound, listed-fronts, fronts-tabled}
-use Rattle.planner.proofs.Promises.{tabled, all-good}
+use Rattle.planner.proofs.Promises.{tabled, all-good, distances-long}
 use Rattle.report.specs.Report.{verdictLines, acceptedText, answerText, tableText}
 use Rattle.report.specs.Steps.{Room, Slotted}
 use Rattle.report.proofs.Sizes.{verdict-most, accepted-most}
-
-distances-long : (n : ℕ) (rows : List Row) → length (distances n rows) ≡ length rows
-unfolding distances
-distances-long n [] = refl
-distances-long n (r ∷ rs) = ap suc (distances-long n rs)
 
 -- the accepted table was judged to be good
 module _ (n : ℕ) (rows : List Row) (s : Summary) (is : theAnswer n rows 32768 512 ≡ Accepted s) where

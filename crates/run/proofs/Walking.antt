@@ -20,7 +20,7 @@ use Rattle.slack.specs.Slack.{Traffic, OnRing, isLate, lateFrom, lateRow, slotO
 use Rattle.slack.specs.Figure.{figuresOf}
 use Rattle.slack.specs.Steps.{stamped, Slotted, SlotPlanned}
 use Rattle.run.specs.Steps.{stampedBy, Ready, Walked}
-use Rattle.slack.proofs.Rule.{state-length, state-on-ring, late-none, none-late, not-late-then, then-not-late, some-under-way, none-under-way}
+use Rattle.slack.proofs.Rule.{slot-length, state-length, state-on-ring, late-none, none-late, not-late-then, then-not-late, some-under-way, none-under-way}
 
 -- the search for the lowest late row, one row further on
 module _ (T : Traffic) (t : ℕ) (left : List ℕ) where
@@ -71,14 +71,10 @@ stamped-length : (slot : List ℕ) (t : ℕ) (list : List ℕ) → length (stamp
 unfolding stamped
 stamped-length slot t list = length-build (length list) _
 
-slot-has : (T : Traffic) (t : ℕ) (left : List ℕ) → length (slotOf T t left) ≡ T .nodes
-unfolding slotOf
-slot-has T t left = length-build (T .nodes) _
-
 pub plan-length : (T : Traffic) (start : List ℕ) (t : ℕ) → length (planOf T start t) ≡ t * T .nodes
 unfolding planOf
 plan-length T start zero = omega arith
-plan-length T start (suc t) = length-append (planOf T start t) (slotOf T t (stateAt T start t)) ∙ omega (arith, plan-length T start t, slot-has T t (stateAt T start t))
+plan-length T start (suc t) = length-append (planOf T start t) (slotOf T t (stateAt T start t)) ∙ omega (arith, plan-length T start t, slot-length T t (stateAt T start t))
 
 plan-more : (T : Traffic) (start plan : List ℕ) (t : ℕ) →
     putMid (t * T .nodes) (t * T .nodes + T .nodes - t * T .nodes) (planOf T start t ++ drop (t * T .nodes) plan) (slotOf T t (stateAt T start t))
@@ -182,7 +178,7 @@ module _ (T : Traffic) (start plan₀ arrivals₀ : List ℕ) (ready : Ready T s
             carried = next-plan;
             stamps = next-stamps;
             left-long = ap length next-state ∙ state-length T start (t + 1);
-            plan-long = same-len-mid (t * T .nodes) (t * T .nodes + T .nodes - t * T .nodes) plan slot (ap length (done .carries) ∙ slot-has T t left ∙ sym part-long) ∙ g .plan-long;
+            plan-long = same-len-mid (t * T .nodes) (t * T .nodes + T .nodes - t * T .nodes) plan slot (ap length (done .carries) ∙ slot-length T t left ∙ sym part-long) ∙ g .plan-long;
             arrivals-long = ap length (done .stamps) ∙ stamped-length (slotOf T t left) (suc t) arrivals ∙ g .arrivals-long;
             within = omega (arith, before-last);
             ahead = g .ahead ∙ goes-on;

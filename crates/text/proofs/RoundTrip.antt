@@ -83,7 +83,7 @@ record Accepted (text : List ℕ) (lent : ℕ) (h : Header) : Type 0 where
   right : wrongLine (rowsIn text) (bodyOf text) 3 ≡ 0
   head : h ≡ record { nodes = nodesIn text; rows = rowsIn text }
 
-refused-not : (r : Refusal) (h : Header) → Refused r ≡ Read h → ⊥
+pub refused-not : (r : Refusal) (h : Header) → Refused r ≡ Read h → ⊥
 refused-not r h e = let z : _≡_ {A = ℕ} 0 1 = cc in omega arith
 
 accepted : (text : List ℕ) (lent : ℕ) (h : Header) → readingOf text lent ≡ Read h → Accepted text lent h
