@@ -29,12 +29,13 @@ use Rattle.edit.specs.Edit.{aboutRow, Edit, Add, Change, Remove, firstOf, sizeR
 use Rattle.catalogue.specs.Catalogue as Catalogue
 use Rattle.catalogue.specs.Catalogue.{isIn, verdictOn}
 use Rattle.catalogue.proofs.Told.{Told, ToldVerdict, ToldWriting, either, verdict-told, put-told}
-use Rattle.panel.specs.declared.PlanAnswer.{PlanAnswer}
-use Rattle.panel.specs.declared.ReadAnswer.{ReadAnswer}
-use Rattle.panel.specs.declared.WriteAnswer.{WriteAnswer}
-use Rattle.panel.specs.declared.EditAnswer.{EditAnswer}
-use Rattle.panel.specs.declared.SentenceAnswer.{SentenceAnswer}
-use Rattle.panel.specs.Panel.{flatOf, flatReading, flatWriting, flatVerdict, flatEntry, flatSentence, PanelPlanned, PanelRead, PanelWritten, PanelOpened, PanelEdited, PanelPut}
+use Rattle.flat.specs.declared.PlanAnswer.{PlanAnswer}
+use Rattle.flat.specs.declared.ReadAnswer.{ReadAnswer}
+use Rattle.flat.specs.declared.WriteAnswer.{WriteAnswer}
+use Rattle.flat.specs.declared.EditAnswer.{EditAnswer}
+use Rattle.flat.specs.declared.SentenceAnswer.{SentenceAnswer}
+use Rattle.flat.specs.Flat.{flatOf, flatReading, flatWriting, flatVerdict, flatEntry, flatSentence}
+use Rattle.panel.specs.Panel.{PanelPlanned, PanelRead, PanelWritten, PanelOpened, PanelEdited, PanelPut}
 
 -- An answer and a reading whose number has a sentence.
 abbrev ToldAnswer : Answer → Type 0
