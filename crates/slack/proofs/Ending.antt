@@ -13,7 +13,7 @@ use lib.Dec.{eqb}
 use lib.ListN.{length, getD}
 use Rattle.slack.specs.Slack.{Traffic, lateRow, stateAt, anyUnderWay, stopFrom, stopOf}
 use Rattle.slack.specs.declared.Stop.{Stop}
-use Rattle.slack.proofs.Joined.{differ, both-hold, not-both}
+use Rattle.lists.proofs.Truth.{differ, both-hold, not-both}
 use Rattle.slack.proofs.Rule.{late-none, not-late-then, state-length, some-under-way}
 
 module _ (T : Traffic) (start : List ℕ) where

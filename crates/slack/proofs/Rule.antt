@@ -2,7 +2,7 @@
 -- Slack appears here as natural numbers: row i has no more slack than row j where due i + left j ≤ due j + left i.
 -- Assumes nothing.
 use mathlib.Core.Path.{_≡_, refl, _∙_, ap, sym}
-use Prim.Native.Nat.{ℕ, zero, suc, _+_, _-_, _≤_, _<_}
+use Prim.Native.Nat.{ℕ, zero, suc, _+_, _-_, _*_, _≤_, _<_}
 use native.Mathlib.Nat.{not-suc-le-zero}
 use native.Mathlib.Omega.{arith}
 use native.Mathlib.Decide.{ℕ-discrete, decLt}
@@ -10,12 +10,12 @@ use mathlib.Core.Bool.{Bool, true, false, cond, _&&_, _||_}
 use mathlib.Core.List.{List, [], _∷_}
 use borrow.Author.Tests.{ltb-true, ltb-false, lt-ltb, eqb-true, eq-eqb, ne-eqb}
 use lib.Dec.{ltb, eqb}
-use lib.ListN.{length, getD}
+use lib.ListN.{length, getD, length-append}
 use Rattle.lists.proofs.Build.{length-build, getD-build}
 use Rattle.ring.specs.Ring.{standing}
 use Rattle.ring.proofs.Turn.{on-ring}
-use Rattle.slack.specs.Slack.{Traffic, OnRing, underWay, place, slack, isLate, lateFrom, lateRow, better, pick, slotOf, moved, stateAt, anyUnderWay}
-use Rattle.slack.proofs.Joined.{differ, both-hold, neither, not-both}
+use Rattle.slack.specs.Slack.{Traffic, OnRing, underWay, place, slack, isLate, lateFrom, lateRow, better, pick, slotOf, moved, stateAt, planOf, anyUnderWay}
+use Rattle.lists.proofs.Truth.{differ, both-hold, neither, not-both}
 use Rattle.slack.proofs.Signed.{slack-below-zero, slack-compared}
 
 -- ---- late
@@ -311,13 +311,26 @@ module _ (T : Traffic) (start : List ℕ) where
   state-less = run-less T (stateAt T start) (λ t. slotOf T t (stateAt T start t)) (λ t. refl)
 
 -- The rule's slot has an entry for each link, the row that the node there sends.
-pub slot-length : (T : Traffic) (t : ℕ) (left : List ℕ) → length (slotOf T t left) ≡ T .nodes
-unfolding slotOf
-slot-length T t left = length-build (T .nodes) (λ p. pick T t left p (length left))
+module _ (T : Traffic) (t : ℕ) (left : List ℕ) where
+  pub slot-length : length (slotOf T t left) ≡ T .nodes
+  unfolding slotOf
+  slot-length = length-build (T .nodes) (λ p. pick T t left p (length left))
 
-pub slot-entry : (T : Traffic) (t : ℕ) (left : List ℕ) (p : ℕ) → p < T .nodes → getD (slotOf T t left) p 0 ≡ pick T t left p (length left)
-unfolding slotOf
-slot-entry T t left p l = getD-build (T .nodes) (λ p. pick T t left p (length left)) p 0 l
+  pub slot-entry : (p : ℕ) → p < T .nodes → getD (slotOf T t left) p 0 ≡ pick T t left p (length left)
+  unfolding slotOf
+  slot-entry p l = getD-build (T .nodes) (λ p. pick T t left p (length left)) p 0 l
+
+  -- A row that it names on a link is the one that the node there is to send.
+  pub slot-names : (p i : ℕ) → p < T .nodes → getD (slotOf T t left) p 0 ≡ suc i → Picked T t left p (length left) i
+  slot-names p i l e = pick-least T t left p (length left) i (sym (slot-entry p l) ∙ e)
+
+-- A plan has an entry for each link in each slot.
+pub plan-length : (T : Traffic) (start : List ℕ) (t : ℕ) → length (planOf T start t) ≡ t * T .nodes
+unfolding planOf
+plan-length T start zero = omega arith
+plan-length T start (suc t) =
+    let left = stateAt T start t in
+    length-append (planOf T start t) (slotOf T t left) ∙ omega (arith, plan-length T start t, slot-length T t left)
 
 -- ---- all delivered
 

@@ -14,7 +14,7 @@ written c =
     let s = c .before .before .before .before .before .before .before .before .before in
     let room = c .before .before .before .no-figures in
     record {
-      lent = front-long 512 (length (s .args .left .now)) (pos 0) (room .result) (room .ensures) (s .pre .2);
+      lent = front-long 512 (length (s .args .left .now)) (pos 0) (room .result) (room .ensures) (s .pre .1);
       kept = c .write-figures .kept .1 .1 .1 .1 .0;
     }
 
@@ -27,12 +27,12 @@ array-borrow-prefix-figure c = search needs
 slice-aggregate-write-figures : tie.Need-slice-aggregate-write-figures
 slice-aggregate-write-figures c =
     let s = c .before .before .before .before .before .before .before .before in
-    front-long 512 (length (s .args .left .now)) (pos 0) _ (c .before .before .no-figures .ensures) (s .pre .2)
+    front-long 512 (length (s .args .left .now)) (pos 0) _ (c .before .before .no-figures .ensures) (s .pre .1)
 
 write-figures-requires : tie.Need-write-figures-requires
 write-figures-requires c κs =
     let s = c .before .before .before .before .before .before .before .before in
-    (s .pre .0 .ring, sym (front-long 512 (length (s .args .left .now)) (pos 0) _ (c .before .before .no-figures .ensures) (s .pre .2)))
+    (s .pre .0 .ring, sym (front-long 512 (length (s .args .left .now)) (pos 0) _ (c .before .before .no-figures .ensures) (s .pre .1)))
 
 array-borrow-prefix-figure-2 : tie.Need-array-borrow-prefix-figure-2
 array-borrow-prefix-figure-2 c = front-fits (written (c .before .before))
@@ -44,7 +44,7 @@ run-figured-requires : tie.Need-run-figured-requires
 run-figured-requires c κs =
     let s = c .before .before .before .before .before .before .before .before .before .before .before .before .before .before in
     let w = c .before .before .before .before .before in
-    (s .pre .0, s .pre .1, rw (front-again (written w)) (w .write-figures .ensures))
+    (s .pre .0, rw (front-again (written w)) (w .write-figures .ensures))
 
 same-length : tie.Need-same-length
 same-length c = search needs

@@ -1,10 +1,10 @@
--- `slack::plan_slot` meets its contract: what `choose` says is what `pass_node_0` and `send` ask.
+-- `slot::plan_slot` meets its contract: what `choose` says is what `pass_node_0` and `send` ask.
 -- Assumes nothing.
 use native.Mathlib.Omega.{arith}
 use borrow.Author.Needs.{needs}
-use Rattle.slack.proofs.Slotting.{can-choose, can-turn, can-send, planned}
-use Rattle.slack.proofs.plan_slot.Statement.{statement}
-use Rattle.slack.proofs.plan_slot.Tie as tie
+use Rattle.slot.proofs.Slotting.{can-choose, can-turn, can-send, planned}
+use Rattle.slot.proofs.plan_slot.Statement.{statement}
+use Rattle.slot.proofs.plan_slot.Tie as tie
 
 choose-requires : tie.Need-choose-requires
 choose-requires c κs =

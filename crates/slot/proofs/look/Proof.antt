@@ -2,16 +2,14 @@ use lib.IntN.{ℤ, pos}
 use lib.Signed.{mag}
 use lib.ListN.{getD}
 use Prim.Native.Nat.{_-_, _<_, _^_}
--- `slack::look` meets its contract: each way through it is one law of a row looked at.
+-- `slot::look` meets its contract: each way through it is one law of a row looked at.
 -- Assumes nothing.
-use mathlib.Core.Path.{refl}
 use native.Mathlib.Omega.{arith}
-use Rattle.slack.specs.Steps.{standsAt}
-use Rattle.slack.proofs.Bits.{compared}
-use Rattle.slack.proofs.Looking.{idle, on-ring, slot-has, first, rival-is, tighter, looser}
+use Rattle.slot.specs.Steps.{standsAt}
+use Rattle.slot.proofs.Looking.{compared, idle, on-ring, slot-has, first, rival-is, tighter, looser}
 use borrow.Author.Needs.{needs}
-use Rattle.slack.proofs.look.Statement.{statement}
-use Rattle.slack.proofs.look.Tie as tie
+use Rattle.slot.proofs.look.Statement.{statement}
+use Rattle.slot.proofs.look.Tie as tie
 
 mul-to-go : tie.Need-mul-to-go
 mul-to-go c = search needs
@@ -137,7 +135,7 @@ returns-3 c =
     let y : ℤ = getD (a .figure .now) (getD (a .slot .now) (c .before .before .before .before .before .before .node-at .result .0) 0 - 1) (pos 0) in
     let fx : mag x < 2 ^ 31 = search needs in
     let fy : mag y < 2 ^ 31 = search needs in
-    tighter k _ at not-there (c .before .before .before .if2 .left) (compared x y x y _ fx fy refl refl (c .if3 .taken))
+    tighter k _ at not-there (c .before .before .before .if2 .left) (compared x y _ fx fy (c .if3 .taken))
 
 returns-4 : tie.Need-returns-4
 unfolding standsAt
@@ -150,7 +148,7 @@ returns-4 c =
     let y : ℤ = getD (a .figure .now) (getD (a .slot .now) (c .before .before .before .before .before .before .node-at .result .0) 0 - 1) (pos 0) in
     let fx : mag x < 2 ^ 31 = search needs in
     let fy : mag y < 2 ^ 31 = search needs in
-    looser k _ at not-there (c .before .before .before .if2 .left) (compared x y x y _ fx fy refl refl (c .if3 .left))
+    looser k _ at not-there (c .before .before .before .if2 .left) (compared x y _ fx fy (c .if3 .left))
 
 pub look-spec : {M : Type 1} → statement M
 look-spec =

@@ -1,10 +1,10 @@
 use native.Mathlib.Omega.{arith}
--- `slack::pass_node_0` meets its contract: one figure is corrected, or none.
+-- `slot::pass_node_0` meets its contract: one figure is corrected, or none.
 -- Assumes nothing.
-use Rattle.slack.proofs.Turning.{turned-none, correction-fits, corrected}
+use Rattle.slot.proofs.Turning.{turned-none, correction-fits, corrected}
 use borrow.Author.Needs.{needs}
-use Rattle.slack.proofs.pass_node_0.Statement.{statement}
-use Rattle.slack.proofs.pass_node_0.Tie as tie
+use Rattle.slot.proofs.pass_node_0.Statement.{statement}
+use Rattle.slot.proofs.pass_node_0.Tie as tie
 
 sub-row : tie.Need-sub-row
 sub-row c = search needs

@@ -4,16 +4,16 @@ use mir.Syntax.{w32}
 use mir.Val.{toZ, ofZ}
 use mir.Facts.{toZ-ofZ}
 use borrow.Author.Needs.{sfits-of, needs}
--- `slack::write_figures` meets its contract: after i turns the first i figures are written.
+-- `slot::write_figures` meets its contract: after i turns the first i figures are written.
 -- Assumes nothing.
 use Prim.Native.Nat.{_≤_, _-_}
 use native.Mathlib.Omega.{arith}
 use lib.ListN.{length, length-set}
 use Rattle.lists.proofs.Filling.{filled, filled-more, filled-whole}
 use Rattle.slack.specs.Slack.{traffic}
 use Rattle.slack.specs.Figure.{figure as figureIn, figuresOf}
-use Rattle.slack.proofs.write_figures.Statement.{statement}
-use Rattle.slack.proofs.write_figures.Tie as tie
+use Rattle.slot.proofs.write_figures.Statement.{statement}
+use Rattle.slot.proofs.write_figures.Tie as tie
 
 -- a figure that was stored, as it is read
 abbrev figure-value : ℤ → ℤ

@@ -2,21 +2,30 @@
 -- Assumes nothing.
 use mathlib.Core.Path.{_≡_, _∙_, ap, sym}
 use mathlib.Core.Bool.{Bool, true, false, cond, _||_, and-false, or-true}
-use Prim.Native.Nat.{ℕ, zero, suc, pred, _+_, _-_, _≤_, _<_}
+use Prim.Native.Nat.{ℕ, zero, suc, pred, _+_, _-_, _≤_, _<_, _^_}
 use native.Mathlib.Numerals.{add-one, sub-one}
 use native.Mathlib.Omega.{arith}
 use borrow.Author.Tests.{lt-ltb, eq-eqb, ne-eqb}
+use borrow.Author.Needs.{sfits-of}
+use mir.Syntax.{w32}
+use mir.Val.{toZ, ofZ}
+use mir.Facts.{toZ-ofZ}
 use mathlib.Core.List.{List}
 use lib.Dec.{eqb}
-use lib.IntN.{pos}
-use lib.Signed.{ltZ}
+use lib.IntN.{ℤ, pos}
+use lib.Signed.{ltZ, mag}
 use lib.ListN.{length, getD, set, replicate}
 use lib.Seq.{set-getD}
 use Rattle.lists.proofs.Build.{length-build, getD-build, build-ext, build-const, set-build}
 use Rattle.ring.specs.Ring.{standing}
 use Rattle.ring.proofs.Turn.{on-ring as turn-inside}
 use Rattle.slack.specs.Slack.{underWay}
-use Rattle.slack.specs.Steps.{Board, standsAt, lower, lowest, seen, Looking}
+use Rattle.slot.specs.Steps.{Board, standsAt, lower, lowest, seen, Looking}
+
+-- two signed numbers compared as the code does, in the bits of an i32
+pub compared : (x y : ℤ) (b : Bool) → mag x < 2 ^ 31 → mag y < 2 ^ 31
+    → ltZ (toZ w32 (ofZ w32 x)) (toZ w32 (ofZ w32 y)) ≡ b → ltZ x y ≡ b
+compared x y b fx fy = rw (toZ-ofZ (sfits-of {w = w32} {z = x} fx), toZ-ofZ (sfits-of {w = w32} {z = y} fy)) (λ t. t)
 
 -- row j has a lower figure than row k
 abbrev pub below : Board → (j k : ℕ) → Bool
@@ -46,7 +55,8 @@ module _ (B : Board) (i : ℕ) where
   -- a row counts at the node where it stands, and at no other
   one-seen : (p : ℕ) → p ≡ standsAt B i → set (seen B i) p (lowest B p (suc i)) ≡ seen B (suc i)
   unfolding seen
-  one-seen p e = set-build (B .nodes) so-far (λ q. lowest B q (suc i)) p (λ q h differs. passed q (elsewhere q (λ same. differs (sym same ∙ sym e))))
+  one-seen p e =
+      set-build (B .nodes) so-far (λ q. lowest B q (suc i)) p (λ q h differs. passed q (elsewhere q (λ same. differs (sym same ∙ sym e))))
 
   module _ (p : ℕ) (at : p ≡ standsAt B i) (inside : p < B .nodes) (under-way : 0 < getD (B .left) i 0) where
     pub best-is : getD (seen B i) p 0 ≡ so-far p
@@ -127,4 +137,6 @@ module _ {B : Board} {i : ℕ} {slot : List ℕ} (k : Looking B i slot) where
       tighter e = rw (k .so-far) (tighter-seen B i p at inside (omega arith) (ap (below B i) (sym rival) ∙ e))
 
       pub looser : below B i (getD slot p 0 - 1) ≡ false → slot ≡ seen B (suc i)
-      looser e = k .so-far ∙ sym (looser-seen B i p at inside (omega arith) (λ z. held (best-was ∙ z)) (ap (below B i) (sym rival) ∙ e))
+      looser e =
+          k .so-far
+          ∙ sym (looser-seen B i p at inside (omega arith) (λ z. held (best-was ∙ z)) (ap (below B i) (sym rival) ∙ e))

@@ -1,14 +1,14 @@
--- `slack::choose` meets its contract: after i turns the slot is what the first i rows make it.
+-- `slot::choose` meets its contract: after i turns the slot is what the first i rows make it.
 -- Assumes nothing.
 use mathlib.Core.Path.{_≡_, _∙_, ap}
 use Prim.Native.Nat.{_≤_, _-_}
 use native.Mathlib.Numerals.{add-one}
 use native.Mathlib.Omega.{arith}
 use lib.ListN.{length}
-use Rattle.slack.specs.Steps.{board, seen}
-use Rattle.slack.proofs.Looking.{none-looked, seen-length}
-use Rattle.slack.proofs.choose.Statement.{statement}
-use Rattle.slack.proofs.choose.Tie as tie
+use Rattle.slot.specs.Steps.{board, seen}
+use Rattle.slot.proofs.Looking.{none-looked, seen-length}
+use Rattle.slot.proofs.choose.Statement.{statement}
+use Rattle.slot.proofs.choose.Tie as tie
 
 abbrev Inv-loop : tie.InvT-loop
 Inv-loop nodes dst left figure slot₀ i₀ slot i = (i ≤ length left) × (slot ≡ seen (board nodes dst left figure) i)

@@ -1,14 +1,14 @@
--- `slack::figure_of` meets its contract: three numbers of 16 bits, worked out in 32 signed bits.
+-- `slot::figure_of` meets its contract: three numbers of 16 bits, worked out in 32 signed bits.
 -- Assumes nothing.
 use mathlib.Core.Path.{_∙_, ap}
 use Prim.Native.Nat.{ℕ}
 use native.Mathlib.Omega.{arith}
 use borrow.Author.Needs.{needs}
 use Rattle.slack.specs.Slack.{slackOf}
 use Rattle.slack.specs.Figure.{figureOf}
 use Rattle.slack.proofs.Bits.{first-fits, second-fits, is-slack}
-use Rattle.slack.proofs.figure_of.Statement.{statement}
-use Rattle.slack.proofs.figure_of.Tie as tie
+use Rattle.slot.proofs.figure_of.Statement.{statement}
+use Rattle.slot.proofs.figure_of.Tie as tie
 
 turn-of-requires : tie.Need-turn-of-requires
 turn-of-requires c κs = search needs

@@ -18,9 +18,9 @@ use lib.Signed.{mag}
 use lib.ListN.{length, getD, set, length-set}
 use lib.Seq.{getD-set-same, getD-set-other}
 use Rattle.lists.proofs.Build.{is-build}
-use Rattle.slack.specs.Steps.{turned, Turning}
+use Rattle.slot.specs.Steps.{turned, Turning}
 use Rattle.slack.proofs.Bits.{whole}
 use Rattle.slack.proofs.Signed.{difference-range}
 
 sum-range : (x : ℤ) (n : ℕ) → mag x < 2 ^ 30 → n < 2 ^ 16 → mag (x +ℤ pos n) < 2 ^ 31
 sum-range (pos a) n h k = omega arith

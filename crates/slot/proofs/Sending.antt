@@ -14,12 +14,12 @@ use lib.ListN.{length, getD, set, take}
 use lib.Seq.{getD-take, length-take-le}
 use Rattle.lists.specs.Lists.{build}
 use Rattle.lists.proofs.Build.{length-build, getD-build, build-ext, build-of, set-build}
 use Rattle.slack.specs.Slack.{Traffic, OnRing, place, slotOf, moved}
 use Rattle.slack.specs.Figure.{figuresOf}
-use Rattle.slack.specs.Steps.{named, less, stamped, turned, Sending, SlotPlanned}
-use Rattle.slack.proofs.Rule.{Picked, pick-least, place-inside, slot-entry}
-use Rattle.slack.proofs.Joined.{differ}
-use Rattle.slack.proofs.Figures.{figures-next}
+use Rattle.slot.specs.Steps.{named, less, stamped, turned, Sending, SlotPlanned}
+use Rattle.slack.proofs.Rule.{Picked, place-inside, slot-length, slot-names}
+use Rattle.lists.proofs.Truth.{differ}
+use Rattle.slot.proofs.Choosing.{figures-next}
 
 pub named-then : (slot : List ℕ) (i : ℕ) → named slot i ≡ true → (q : ℕ) × (q < length slot) × (getD slot q 0 ≡ suc i)
 unfolding named
@@ -145,12 +145,8 @@ module _ (T : Traffic) (t : ℕ) (left : List ℕ) (ring : OnRing T left) where
   abbrev slot : List ℕ
   slot = slotOf T t left
 
-  pub slot-long : length slot ≡ T .nodes
-  unfolding slotOf
-  slot-long = length-build (T .nodes) _
-
   picked : (p i : ℕ) → p < length slot → getD slot p 0 ≡ suc i → Picked T t left p (length left) i
-  picked p i h e = pick-least T t left p (length left) i (sym (slot-entry T t left p (omega (arith, slot-long))) ∙ e)
+  picked p i h = slot-names T t left p i (omega (arith, slot-length T t left))
 
   pub chosen-sending : (arrivals : List ℕ) → length arrivals ≡ length left → Sending slot left arrivals
   chosen-sending arrivals e =
@@ -171,7 +167,7 @@ module _ (T : Traffic) (t : ℕ) (left : List ℕ) (ring : OnRing T left) where
           let r = named-then slot i e in
           sym (eq-eqb _ (suc i) (ap (λ q. getD slot q 0) (picked (r .0) i (r .1) (r .2) .stands .here) ∙ r .2))
       go false e =
-          sym (ne-eqb _ (suc i) (λ s. differ (sym e ∙ then-named slot i (place T left i) (omega (arith, slot-long, place-inside T left ring i h)) s)))
+          sym (ne-eqb _ (suc i) (λ s. differ (sym e ∙ then-named slot i (place T left i) (omega (arith, slot-length T t left, place-inside T left ring i h)) s)))
 
   pub less-moved : less slot left ≡ moved T slot left
   unfolding less moved

@@ -1,4 +1,4 @@
--- `slack::send` meets its contract: after p turns the rows that the first p links name have been moved and stamped.
+-- `slot::send` meets its contract: after p turns the rows that the first p links name have been moved and stamped.
 -- Assumes nothing.
 use mathlib.Core.Path.{_≡_, _∙_, ap, sym}
 use mathlib.Core.Logic.{⊎-elim}
@@ -7,10 +7,10 @@ use native.Mathlib.Numerals.{add-one}
 use native.Mathlib.Omega.{arith}
 use lib.ListN.{length, take}
 use lib.Seq.{take-all}
-use Rattle.slack.specs.Steps.{less, stamped}
-use Rattle.slack.proofs.Sending.{left-first, arrivals-first, left-long, arrivals-long, left-idle, arrivals-idle, row-inside, left-some, left-sent, arrivals-sent}
-use Rattle.slack.proofs.send.Statement.{statement}
-use Rattle.slack.proofs.send.Tie as tie
+use Rattle.slot.specs.Steps.{less, stamped}
+use Rattle.slot.proofs.Sending.{left-first, arrivals-first, left-long, arrivals-long, left-idle, arrivals-idle, row-inside, left-some, left-sent, arrivals-sent}
+use Rattle.slot.proofs.send.Statement.{statement}
+use Rattle.slot.proofs.send.Tie as tie
 
 abbrev Inv-loop : tie.InvT-loop
 Inv-loop slot left₀ arrivals₀ end p₀ left arrivals p = (p ≤ length slot) × (left ≡ less (take p slot) left₀) × (arrivals ≡ stamped (take p slot) end arrivals₀)
