@@ -1,5 +1,6 @@
--- What a run leaves: from the instant on at which every row is delivered the links idle, and a row's last stamp is its delivery instant.
--- A row that never was under way is stamped by no slot: it keeps the 0 to which its arrival was cleared, and is delivered at instant 0.
+-- What a run leaves: from the instant on at which every row is delivered the links idle, and a row's last stamp is its
+-- delivery instant. A row that never was under way is stamped by no slot: it keeps the 0 to which its arrival was
+-- cleared, and is delivered at instant 0.
 --     idle-on                     the plan of more slots than the run needs
 --     all-stamped                 the stamps over cleared arrivals are the arrivals
 --     Over, accepted, refused     what `run` gives, from what `walk` left
@@ -14,15 +15,18 @@ use mathlib.Core.List.{List, [], _++_, append-assoc, append-nil}
 use lib.Dec.{ltb}
 use lib.IntN.{ℤ}
 use borrow.Rule.Slice.PartMut.{putMid}
-use lib.ListN.{length, getD, take, drop, replicate, length-drop, length-replicate, getD-replicate, drop-of-length-le, replicate-append-replicate}
+use lib.ListN.{length, getD, take, drop, replicate, length-drop, drop-of-length-le}
+use lib.ListN.{length-replicate, getD-replicate, replicate-append-replicate}
 use lib.Seq.{take-at, length-take-le}
 use Rattle.lists.specs.Lists.{largest}
 use Rattle.lists.proofs.Figures.{at-most-largest}
 use Rattle.lists.proofs.Build.{length-build, getD-build, build-ext, build-const, is-build}
-use Rattle.slack.specs.Slack.{Traffic, OnRing, underWay, pick, slotOf, stateAt, planOf, deliveredFrom, arrivalsOf, anyUnderWay}
+use Rattle.slack.specs.Slack.{Traffic, OnRing, underWay, pick, slotOf, stateAt, planOf}
+use Rattle.slack.specs.Slack.{deliveredFrom, arrivalsOf, anyUnderWay}
 use Rattle.slack.specs.declared.Stop.{Stop}
 use Rattle.slack.proofs.Ending.{stop-first, stop-delivered}
-use Rattle.slack.proofs.Rule.{pick-least, plan-length, state-length, state-on-ring, state-less, moved-entry, none-under-way}
+use Rattle.slack.proofs.Rule.{pick-least, plan-length, state-length, state-on-ring, state-less}
+use Rattle.slack.proofs.Rule.{moved-entry, none-under-way}
 use Rattle.slot.specs.Steps.{named, stamped}
 use Rattle.slot.proofs.Sending.{named-there, named-under-way}
 use Rattle.run.specs.Steps.{stampedBy, Ready, Walked, Ran}
@@ -94,7 +98,8 @@ arrives-at T start i d a (suc m) s l h = go (decLt s d) (arrives-at T start i d 
         let e : s ≡ d = omega arith in
         rw (e, le-ltb 0 (togo T start d i) (omega (arith, a .there)))
 
-module _ (T : Traffic) (start list : List ℕ) (ring : OnRing T start) (cleared : list ≡ replicate {A = ℕ} (length start) 0) where
+module _ (T : Traffic) (start list : List ℕ) (ring : OnRing T start)
+    (cleared : list ≡ replicate {A = ℕ} (length start) 0) where
   abbrev stamp : ℕ → ℕ → ℕ
   stamp t i = getD (stampedBy T start list t) i 0
 
@@ -131,8 +136,8 @@ module _ (T : Traffic) (start list : List ℕ) (ring : OnRing T start) (cleared 
   stamped-there i h (suc t) e =
       go (named (carried T start t) i) refl (decLt 0 (togo T start t i)) (stamped-there i h t)
     where
-      go : (b : Bool) → named (carried T start t) i ≡ b → Dec (0 < togo T start t i) → (togo T start t i ≡ 0 → Stamped t i)
-          → Stamped (suc t) i
+      go : (b : Bool) → named (carried T start t) i ≡ b → Dec (0 < togo T start t i)
+          → (togo T start t i ≡ 0 → Stamped t i) → Stamped (suc t) i
       go true n (yes d) ih =
           let v : stamp (suc t) i ≡ suc t = stamp-suc t i h ∙ rw n in
           let earlier : (u : ℕ) → u < suc t → 0 < togo T start u i
@@ -222,13 +227,15 @@ module _ {T : Traffic} {start plan₀ : List ℕ} {stop : Stop} {left plan arriv
     done : Delivered T start end
     done i h =
         let ended = o .walked .stops in
-        let all = stop-delivered T start last (λ j l. at-most-largest (T .due) j) (ap (λ s. s .row) (sym ended) ∙ on-time) in
+        let none-late = ap (λ s. s .row) (sym ended) ∙ on-time in
+        let all = stop-delivered T start last (λ j l. at-most-largest (T .due) j) none-late in
         none-under-way (stateAt T start end) (ap (λ s. anyUnderWay (stateAt T start (s .slot .0))) ended ∙ all) i
 
     abbrev behind : ℕ
     behind = length plan - end * T .nodes
 
-    module _ (rest : List ℕ) (idle : rest ≡ replicate {A = ℕ} (length (take behind (drop (end * T .nodes) plan))) 0) where
+    module _ (rest : List ℕ)
+        (idle : rest ≡ replicate {A = ℕ} (length (take behind (drop (end * T .nodes) plan))) 0) where
       whole-plan : putMid (end * T .nodes) behind plan rest ≡ planOf T start last
       whole-plan =
           let e : last ≡ end + (last - end) = omega (arith, in-time) in
@@ -238,15 +245,16 @@ module _ {T : Traffic} {start plan₀ : List ℕ} {stop : Stop} {left plan arriv
           front (end * T .nodes) plan (planOf T start end) rest old (plan-length T start end) (o .walked .carries) idle
           ∙ rw k (sym (ap (planOf T start) e ∙ idle-on T start end (last - end) done))
 
+      stamps-arrive : stampedBy T start (o .arrivals₀) end ≡ arrivalsOf T start last
+      stamps-arrive = all-stamped T start (o .arrivals₀) (o .ready .ring) cleared-all end last in-time done
+
       pub accepted : Ran T start (length plan₀) stop left (putMid (end * T .nodes) behind plan rest) arrivals
       accepted =
           record {
             stops = o .walked .stops;
             leaves = o .walked .leaves;
             carries = whole-plan ∙ rw on-time;
-            arrives =
-                o .walked .stamps ∙ all-stamped T start (o .arrivals₀) (o .ready .ring) cleared-all end last in-time done
-                ∙ rw on-time;
+            arrives = o .walked .stamps ∙ stamps-arrive ∙ rw on-time;
           }
 
   pub refused : (stop .row ≡ 0 → ⊥) → (plan′ arrivals′ : List ℕ)

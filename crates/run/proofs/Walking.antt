@@ -1,4 +1,5 @@
--- The walk over the instants: what holds where an instant begins, that a turn keeps it, and what it says where the walk is left.
+-- The walk over the instants: what holds where an instant begins, that a turn keeps it, and what it says where the
+-- walk is left.
 --     Sought                   the search for the lowest late row, row by row
 --     Going, begin, again      what holds where an instant begins, from the first on
 --     Planning                 what holds where its slot is to be planned
@@ -20,10 +21,12 @@ use lib.Seq.{take-at, drop-at, drop-drop, length-take-le}
 use Rattle.lists.specs.Lists.{largest}
 use Rattle.lists.proofs.Build.{length-build}
 use Rattle.lists.proofs.Figures.{at-most-largest}
-use Rattle.slack.specs.Slack.{Traffic, OnRing, isLate, lateFrom, lateRow, slotOf, moved, stateAt, planOf, anyUnderWay, stopFrom, stopOf}
+use Rattle.slack.specs.Slack.{Traffic, OnRing, isLate, lateFrom, lateRow, slotOf, moved, stateAt, planOf}
+use Rattle.slack.specs.Slack.{anyUnderWay, stopFrom, stopOf}
 use Rattle.slack.specs.Figure.{figuresOf}
 use Rattle.slack.specs.declared.Stop.{Stop}
-use Rattle.slack.proofs.Rule.{slot-length, plan-length, state-length, state-on-ring, late-none, none-late, not-late-then, then-not-late, some-under-way, none-under-way}
+use Rattle.slack.proofs.Rule.{slot-length, plan-length, state-length, state-on-ring, some-under-way, none-under-way}
+use Rattle.slack.proofs.Rule.{late-none, none-late, not-late-then, then-not-late}
 use Rattle.slack.proofs.Figures.{figures-long}
 use Rattle.slot.specs.Steps.{stamped, Slotted, SlotPlanned}
 use Rattle.run.specs.Steps.{stampedBy, Ready, Walked}
@@ -83,8 +86,12 @@ module _ (T : Traffic) (start : List ℕ) (t : ℕ) where
   unfolding stampedBy
   stamps-more list = rw add-one
 
+  -- the plan after t slots, over what the area held
+  abbrev plan-then : List ℕ → List ℕ
+  plan-then plan = planOf T start t ++ drop (t * T .nodes) plan
+
   plan-more : (plan : List ℕ)
-      → putMid (t * T .nodes) (t * T .nodes + T .nodes - t * T .nodes) (planOf T start t ++ drop (t * T .nodes) plan) slot-then
+      → putMid (t * T .nodes) (t * T .nodes + T .nodes - t * T .nodes) (plan-then plan) slot-then
       ≡ planOf T start (t + 1) ++ drop ((t + 1) * T .nodes) plan
   unfolding planOf
   plan-more plan =
@@ -240,7 +247,8 @@ module _ {T : Traffic} {start plan₀ arrivals₀ : List ℕ} {t late : ℕ}
 
     goes-on : stopFrom T (last T - t) t left ≡ stopFrom T (last T - (t + 1)) (t + 1) left′
     goes-on =
-        rw (done .moves) (runs-on T (last T - t) t left (last T - (t + 1)) (omega (arith, before-last)) (k .busy) (k .on-time))
+        let one-less : last T - t ≡ suc (last T - (t + 1)) = omega (arith, before-last) in
+        rw (done .moves) (runs-on T (last T - t) t left (last T - (t + 1)) one-less (k .busy) (k .on-time))
 
     slot-long : length slot ≡ length (take links (drop first-link plan))
     slot-long = ap length (done .carries) ∙ slot-length T t left ∙ sym part-long

@@ -24,7 +24,8 @@ use Rattle.ring.proofs.Turn.{short-of-zero, past-zero}
 use Rattle.slack.specs.Slack.{Traffic, OnRing, place, slackOf, slack, slotOf, moved, stateAt}
 use Rattle.slack.specs.Figure.{turnOf, figureOf, figure, figuresOf}
 use Rattle.slack.proofs.Signed.{below, above, slack-is, slack-compared, differences-compared, less-of-difference}
-use Rattle.slack.proofs.Rule.{Stands, slot-names, place-inside, moved-sent, moved-waits, state-length, state-on-ring, state-less}
+use Rattle.slack.proofs.Rule.{Stands, slot-names, place-inside, moved-sent, moved-waits}
+use Rattle.slack.proofs.Rule.{state-length, state-on-ring, state-less}
 
 -- The figure is the due slot less the sum of the destination and the turn.
 pub figure-is : (n dst due left : ℕ) → figureOf n dst due left ≡ subℕ due (dst + turnOf n dst left)
@@ -134,7 +135,8 @@ last-node n dst left inside most way last = go (ltb dst left) refl
 
 -- What a move does to the figure: a row that steps from node N - 1 to node 0 has its figure corrected by N.
 module _ (n dst due left : ℕ) (inside : dst < n) (most : left ≤ n) (way : 0 < left) where
-  pub corrected-past-0 : suc (standing n dst left) ≡ n → figureOf n dst due (left - 1) ≡ figureOf n dst due left +ℤ pos n
+  pub corrected-past-0 : suc (standing n dst left) ≡ n
+      → figureOf n dst due (left - 1) ≡ figureOf n dst due left +ℤ pos n
   corrected-past-0 last =
       let next : left ≡ suc dst = last-node n dst left inside most way last in
       let none : dst + turnOf n dst (left - 1) ≡ dst = omega (arith, turn-short n dst (left - 1) (omega arith)) in
@@ -219,14 +221,15 @@ module _ (T : Traffic) (left : List ℕ) (ring : OnRing T left) (t : ℕ) where
           let named = eqb-true (getD slot last 0) (suc i) ea in
           let (here, past) = from-last-node i named in
           ap with-links (moved-sent T slot left i h (rw (here .here) named))
-          ∙ corrected-past-0 n (getD (T .dst) i 0) (getD (T .due) i 0) links (ring .dst-inside i h) (ring .left-inside i h)
-          (here .under-way) past
+          ∙ corrected-past-0 n (getD (T .dst) i 0) (getD (T .due) i 0) links
+          (ring .dst-inside i h) (ring .left-inside i h) (here .under-way) past
       go false ea true eb =
           let named = eqb-true (getD slot (place T left i) 0) (suc i) eb in
           let here = slot-names T t left (place T left i) i (place-inside T left ring i h) named .stands in
           ap with-links (moved-sent T slot left i h named)
-          ∙ kept-elsewhere n (getD (T .dst) i 0) (getD (T .due) i 0) links (ring .dst-inside i h) (ring .left-inside i h)
-          (here .under-way) (λ e. eqb-false (getD slot last 0) (suc i) ea (rw (e-last e) named))
+          ∙ kept-elsewhere n (getD (T .dst) i 0) (getD (T .due) i 0) links
+          (ring .dst-inside i h) (ring .left-inside i h) (here .under-way)
+          (λ e. eqb-false (getD slot last 0) (suc i) ea (rw (e-last e) named))
         where
           e-last : suc (place T left i) ≡ n → last ≡ place T left i
           e-last e = omega arith
@@ -255,7 +258,13 @@ module _ (T : Traffic) (left : List ℕ) (ring : OnRing T left) (t : ℕ) where
           = last-node (T .nodes) (getD (T .dst) i 0) (getD left i 0) (ring .dst-inside i h) (ring .left-inside i h)
           (here .under-way) past in
           let sent = moved-sent T slot left i h (rw (here .here) named) in
-          record { carried-last = named; from-last = here .here; beyond = far; past = omega (arith, sent, far); by-n = f }
+          record {
+            carried-last = named;
+            from-last = here .here;
+            beyond = far;
+            past = omega (arith, sent, far);
+            by-n = f;
+          }
       go false e f = absurd (changed f)
 
 -- In a whole run a row's figure is corrected at most once.
@@ -276,7 +285,7 @@ module _ (T : Traffic) (start : List ℕ) (ring : OnRing T start) (i : ℕ) (h :
   earlier : (t s : ℕ) → t < s → Changes t → Changes s → ⊥
   unfolding stateAt
   earlier t s l a b =
-      let fewer : getD (stateAt T start s) i 0 ≤ getD (stateAt T start (suc t)) i 0 = state-less T start i h (suc t) s l in
+      let fewer = state-less T start i h (suc t) s l in
       let gone : getD (stateAt T start (suc t)) i 0 ≡ getD (T .dst) i 0 = change t a .past in
       omega (arith, fewer, gone, change s b .beyond)
 

@@ -1,5 +1,7 @@
--- `run::run_figured` meets its contract: what `walk` left over cleared arrivals, and the areas cleared behind it or as a whole.
+-- `run::run_figured` meets its contract: what `walk` left over cleared arrivals, and the areas cleared behind it or as
+-- a whole.
 -- Assumes nothing.
+use Prim.Native.Nat.{_*_, _<_, _^_}
 use native.Mathlib.Omega.{arith}
 use borrow.Author.Needs.{needs}
 use Rattle.slack.specs.Slack.{traffic}
@@ -7,9 +9,16 @@ use Rattle.run.proofs.Running.{cleared-ready, Over, inside, inside-lent
 use Rattle.run.proofs.run_figured.Statement.{statement}
 use Rattle.run.proofs.run_figured.Tie as tie
 
+-- The places where the function begins, and where the arrivals have been cleared, from where the walk has been left.
+abbrev cleared-at : tie.After-walk → tie.After-clear
+cleared-at c = c .before .before .before .before .before .before .before
+
+abbrev begun-at : tie.After-walk → tie.Start
+begun-at c = cleared-at c .before .before .before .before .before .before .before
+
 -- The walk has been left.
 left-off : (c : tie.After-walk) →
-    let a = c .before .before .before .before .before .before .before .before .before .before .before .before .before .before .args in
+    let a = begun-at c .args in
     let left = c .walk .last .1 .1 .1 in
     Over (traffic (a .nodes) (a .dst .now) (a .due .now)) (a .left .now) (a .plan .now) (c .walk .result)
     (left .0) (left .1 .1 .0) (left .1 .1 .1 .0)
@@ -19,12 +28,16 @@ left-off c =
       lent = _;
       arrivals₀ = _;
       figures = _;
-      ready = c .before .before .before .before .before .before .before .before .before .before .before .before .before .before .pre .0;
-      cleared = c .before .before .before .before .before .before .before .clear .ensures;
+      ready = begun-at c .pre .0;
+      cleared = cleared-at c .clear .ensures;
       walked = c .walk .ensures;
       plan-long = kept .0;
       arrivals-long = kept .1 .0;
     }
+
+-- The slots that were walked over lie in the plan: where they end is a small number.
+walked-over : (c : tie.After-walk) → c .walk .result .slot .0 * begun-at c .args .nodes < 2 ^ 63
+walked-over c = omega (arith, inside-lent (left-off c), begun-at c .good)
 
 clear-requires : tie.Need-clear-requires
 clear-requires c κs = search needs
@@ -38,20 +51,17 @@ cast-idle : tie.Need-cast-idle
 cast-idle c = search needs
 
 mul-idle : tie.Need-mul-idle
-mul-idle c =
-    let w = c .before .before .before .before .before .before .before .before .before .before in
-    omega (arith, inside-lent (left-off w), w .before .before .before .before .before .before .before .before .before .before .before .before .before .before .good)
+mul-idle c = omega (arith, walked-over (c .before .before .before .before .before .before .before .before .before .before))
 
 mul-clear : tie.Need-mul-clear
-mul-clear c =
-    let w = c .before .before .before .before .before .before .before .before .before .before in
-    omega (arith, inside-lent (left-off w), w .before .before .before .before .before .before .before .before .before .before .before .before .before .before .good)
+mul-clear c = omega (arith, walked-over (c .before .before .before .before .before .before .before .before .before .before))
 
 sub-clear : tie.Need-sub-clear
 sub-clear c = inside (left-off (c .before .before .before .before .before .before .before .before .before .before))
 
 part-clear-start : tie.Need-part-clear-start
-part-clear-start c = inside (left-off (c .before .before .before .before .before .before .before .before .before .before))
+part-clear-start c =
+    inside (left-off (c .before .before .before .before .before .before .before .before .before .before))
 
 part-clear-end : tie.Need-part-clear-end
 part-clear-end c = search needs
@@ -78,7 +88,9 @@ same-length-4 : tie.Need-same-length-4
 same-length-4 c = search needs
 
 returns : tie.Need-returns
-returns c = accepted (left-off (c .before .before .before .before .before .before .before .before .before .before .before .before .before .before)) (omega arith) _ (c .before .before .clear2 .ensures)
+returns c =
+    let cleared = c .before .before in
+    accepted (left-off (cleared .before .before .before .before .before .before .before .before .before .before .before .before)) (omega arith) _ (cleared .clear2 .ensures)
 
 same-length-5 : tie.Need-same-length-5
 same-length-5 c = search needs
@@ -94,7 +106,8 @@ same-length-8 c = search needs
 
 returns-2 : tie.Need-returns-2
 returns-2 c =
-    refused (left-off (c .before .before .before .before .before .before .before .before .before .before .before .before .before .before .before .before .before)) (omega arith) _ _ (c .before .before .before .before .before .before .clear3 .ensures) (c .before .before .clear4 .ensures)
+    let plan = c .before .before .before .before .before .before in
+    refused (left-off (plan .before .before .before .before .before .before .before .before .before .before .before)) (omega arith) _ _ (plan .clear3 .ensures) (c .before .before .clear4 .ensures)
 
 pub run-figured-spec : {M : Type 1} → statement M
 run-figured-spec =

@@ -1,4 +1,5 @@
--- `run::walk` meets its contract: the outer loop keeps what holds where an instant begins, the inner one that no row before i is late.
+-- `run::walk` meets its contract: the outer loop keeps what holds where an instant begins, the inner one that no row
+-- before i is late.
 -- Assumes nothing.
 use mathlib.Core.Path.{_≡_, _∙_, sym, refl}
 use Prim.Native.Nat.{_≤_, _-_}
@@ -7,7 +8,9 @@ use borrow.Author.Needs.{needs}
 use lib.ListN.{length}
 use Rattle.lists.specs.Lists.{largest}
 use Rattle.slack.specs.Slack.{traffic, isLate, underWay, slack}
-use Rattle.run.proofs.Walking.{Sought, seek, seek-on, found, not-found, Going, begin, figures-kept, over, is-late, on-ring, Planning, before-last, before-end, has-room, can-plan, again}
+use Rattle.run.proofs.Walking.{Sought, seek, seek-on, found, not-found}
+use Rattle.run.proofs.Walking.{Going, begin, figures-kept, over, is-late, on-ring}
+use Rattle.run.proofs.Walking.{Planning, before-last, before-end, has-room, can-plan, again}
 use Rattle.run.proofs.walk.Statement.{statement}
 use Rattle.run.proofs.walk.Tie as tie
 
@@ -41,7 +44,7 @@ planning c =
     }
 
 instants-holds : tie.Need-instants-holds Inv-loop μ-loop Inv-instants μ-instants
-instants-holds c = begin (c .before .before .before .before .before .pre .0) (c .before .before .before .before .before .pre .1)
+instants-holds c = let s = c .before .before .before .before .before in begin (s .pre .0) (s .pre .1)
 
 any-under-way-requires : tie.Need-any-under-way-requires Inv-loop μ-loop Inv-instants μ-instants
 any-under-way-requires c κs = tt
@@ -115,22 +118,31 @@ plan-slot-requires : tie.Need-plan-slot-requires Inv-loop μ-loop Inv-instants �
 plan-slot-requires c κs = can-plan (planning (c .before .before .before .before))
 
 add-t : tie.Need-add-t Inv-loop μ-loop Inv-instants μ-instants
-add-t c = omega (arith, before-end (planning (c .before .before .before .before .before .before .before .before .before .before .before .before)))
+add-t c =
+    let sent = c .before .before .before .before .before .before .before in
+    let k = planning (sent .before .before .before .before .before) in
+    omega (arith, before-end k)
 
 instants-less : tie.Need-instants-less Inv-loop μ-loop Inv-instants μ-instants
-instants-less c = omega (arith, before-last (planning (c .before .before .before .before .before .before .before .before .before .before .before .before)))
+instants-less c =
+    let sent = c .before .before .before .before .before .before .before in
+    let k = planning (sent .before .before .before .before .before) in
+    omega (arith, before-last k)
 
 instants-again : tie.Need-instants-again Inv-loop μ-loop Inv-instants μ-instants
 instants-again c =
-    let k = planning (c .before .before .before .before .before .before .before .before .before .before .before .before) in
-    let done = c .before .before .before .before .before .before .before .plan-slot .ensures _ (on-ring (k .going)) (k .going .figured) in
-    again k (c .before .before .before .before .before .before .before .before .before .before .before .before .before .loop .inv .1) done
+    let sent = c .before .before .before .before .before .before .before in
+    let here = sent .before .before .before .before .before in
+    let k = planning here in
+    again k (here .before .loop .inv .1) (sent .plan-slot .ensures _ (on-ring (k .going)) (k .going .figured))
 
 same-length : tie.Need-same-length Inv-loop μ-loop Inv-instants μ-instants
 same-length c = c .before .before .before .instants .inv .left-long
 
 same-length-2 : tie.Need-same-length-2 Inv-loop μ-loop Inv-instants μ-instants
-same-length-2 c = figures-kept (c .before .before .before .instants .inv) (c .before .before .before .before .before .before .before .before .before .pre .1)
+same-length-2 c =
+    let i = c .before .before .before in
+    figures-kept (i .instants .inv) (i .before .before .before .before .before .before .pre .1)
 
 same-length-3 : tie.Need-same-length-3 Inv-loop μ-loop Inv-instants μ-instants
 same-length-3 c = c .before .before .before .instants .inv .plan-long
@@ -145,13 +157,16 @@ same-length-5 : tie.Need-same-length-5 Inv-loop μ-loop Inv-instants μ-instants
 same-length-5 c = c .before .before .before .before .before .before .before .before .before .instants .inv .left-long
 
 same-length-6 : tie.Need-same-length-6 Inv-loop μ-loop Inv-instants μ-instants
-same-length-6 c = figures-kept (c .before .before .before .before .before .before .before .before .before .instants .inv) (c .before .before .before .before .before .before .before .before .before .before .before .before .before .before .before .pre .1)
+same-length-6 c =
+    let i = c .before .before .before .before .before .before .before .before .before in
+    figures-kept (i .instants .inv) (i .before .before .before .before .before .before .pre .1)
 
 same-length-7 : tie.Need-same-length-7 Inv-loop μ-loop Inv-instants μ-instants
 same-length-7 c = c .before .before .before .before .before .before .before .before .before .instants .inv .plan-long
 
 same-length-8 : tie.Need-same-length-8 Inv-loop μ-loop Inv-instants μ-instants
-same-length-8 c = c .before .before .before .before .before .before .before .before .before .instants .inv .arrivals-long
+same-length-8 c =
+    c .before .before .before .before .before .before .before .before .before .instants .inv .arrivals-long
 
 returns-2 : tie.Need-returns-2 Inv-loop μ-loop Inv-instants μ-instants
 unfolding isLate underWay slack
