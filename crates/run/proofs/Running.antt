@@ -252,7 +252,7 @@ module _ {T : Traffic} {start plan₀ : List ℕ} {stop : Stop} {left plan arriv
       accepted =
           record {
             stops = o .walked .stops;
-            leaves = o .walked .leaves;
+            leaves = o .walked .state;
             carries = whole-plan ∙ rw on-time;
             arrives = o .walked .stamps ∙ stamps-arrive ∙ rw on-time;
           }
@@ -265,7 +265,7 @@ module _ {T : Traffic} {start plan₀ : List ℕ} {stop : Stop} {left plan arriv
       = o .arrivals-long ∙ ap length cleared-all ∙ length-replicate (length start) 0 in
       record {
         stops = o .walked .stops;
-        leaves = o .walked .leaves;
+        leaves = o .walked .state;
         carries = p ∙ rw (o .plan-long, ne-eqb (stop .row) 0 is-late);
         arrives = a ∙ rw (l, ne-eqb (stop .row) 0 is-late);
       }

@@ -166,7 +166,7 @@ module _ {T : Traffic} {start plan₀ arrivals₀ : List ℕ} {t late : ℕ}
   ended row e stop =
       record {
         stops = ap (λ r. ending r t) (sym e) ∙ sym (g .ahead ∙ halts T (last T - t) t left stop);
-        leaves = g .state;
+        state = g .state;
         figured = g .figured ∙ ap (figuresOf T) (g .state);
         carries = g .carried;
         stamps = g .stamps;

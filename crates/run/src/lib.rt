@@ -15,7 +15,8 @@ use slot::any_under_way;
 use slot::plan_slot;
 use slot::write_figures;
 
-// Walks over the instants until no row is under way, and over the rows at each; it is left at the first row that is late.
+// Walks over the instants until no row is under way, and over the rows at each; it is left at the first row that is
+// late.
 fn walk(
     nodes: u16,
     dst: &[u16],
@@ -58,8 +59,8 @@ fn walk(
     }
 }
 
-// Plans a run of which the figures are written down: the plan and the arrivals where every row is in time, and both areas cleared where one is late.
-// The arrivals are cleared first, since no slot stamps a row that has nothing to go.
+// Plans a run of which the figures are written down: the plan and the arrivals where every row is in time, and both
+// areas cleared where one is late.
 fn run_figured(
     nodes: u16,
     dst: &[u16],
@@ -72,7 +73,7 @@ fn run_figured(
     requires { ⌜ Ready (traffic nodes (now dst) (now due)) (now left) (now plan) (now arrivals) × (now figure ≡ figuresOf (traffic nodes (now dst) (now due)) (now left)) ⌝ }
     ensures { λ r. ⌜ Ran (traffic nodes (now (dst .entry)) (now (due .entry))) (now (left .entry)) (length (now (plan .entry))) r (now (left .exit)) (now (plan .exit)) (now (arrivals .exit)) ⌝ }
 {
-    clear(arrivals);
+    clear(arrivals); // no slot stamps a row that has nothing to go
     let stop = walk(nodes, dst, due, left, figure, plan, arrivals);
     if stop.row == 0 {
         let idle = stop.slot.0 as usize * nodes as usize;
