@@ -26,8 +26,11 @@ fn walk(
     plan: &mut [u16],
     arrivals: &mut [u16],
 ) -> Stop
-    requires { ⌜ Ready (traffic nodes (now dst) (now due)) (now left) (now plan) (now arrivals) × (now figure ≡ figuresOf (traffic nodes (now dst) (now due)) (now left)) ⌝ }
-    ensures { λ r. ⌜ Walked (traffic nodes (now (dst .entry)) (now (due .entry))) (now (left .entry)) (now (plan .entry)) (now (arrivals .entry)) r (now (left .exit)) (now (figure .exit)) (now (plan .exit)) (now (arrivals .exit)) ⌝ }
+    requires { ⌜ Ready (traffic nodes (now dst) (now due)) (now left) (now plan) (now arrivals)
+        × (now figure ≡ figuresOf (traffic nodes (now dst) (now due)) (now left)) ⌝ }
+    ensures { λ r. ⌜ Walked (traffic nodes (now (dst .entry)) (now (due .entry)))
+        (now (left .entry)) (now (plan .entry)) (now (arrivals .entry))
+        r (now (left .exit)) (now (figure .exit)) (now (plan .exit)) (now (arrivals .exit)) ⌝ }
 {
     let mut t = 0u16;
     let mut late = 0u16;
@@ -70,8 +73,10 @@ fn run_figured(
     plan: &mut [u16],
     arrivals: &mut [u16],
 ) -> Stop
-    requires { ⌜ Ready (traffic nodes (now dst) (now due)) (now left) (now plan) (now arrivals) × (now figure ≡ figuresOf (traffic nodes (now dst) (now due)) (now left)) ⌝ }
-    ensures { λ r. ⌜ Ran (traffic nodes (now (dst .entry)) (now (due .entry))) (now (left .entry)) (length (now (plan .entry))) r (now (left .exit)) (now (plan .exit)) (now (arrivals .exit)) ⌝ }
+    requires { ⌜ Ready (traffic nodes (now dst) (now due)) (now left) (now plan) (now arrivals)
+        × (now figure ≡ figuresOf (traffic nodes (now dst) (now due)) (now left)) ⌝ }
+    ensures { λ r. ⌜ Ran (traffic nodes (now (dst .entry)) (now (due .entry))) (now (left .entry)) (length (now (plan .entry)))
+        r (now (left .exit)) (now (plan .exit)) (now (arrivals .exit)) ⌝ }
 {
     clear(arrivals); // no slot stamps a row that has nothing to go
     let stop = walk(nodes, dst, due, left, figure, plan, arrivals);
@@ -101,8 +106,10 @@ pub fn run(
     plan: &mut [u16],
     arrivals: &mut [u16],
 ) -> Stop
-    requires { ⌜ Ready (traffic nodes (now dst) (now due)) (now left) (now plan) (now arrivals) × (length (now left) ≤ 512) ⌝ }
-    ensures { λ r. ⌜ Ran (traffic nodes (now (dst .entry)) (now (due .entry))) (now (left .entry)) (length (now (plan .entry))) r (now (left .exit)) (now (plan .exit)) (now (arrivals .exit)) ⌝ }
+    requires { ⌜ Ready (traffic nodes (now dst) (now due)) (now left) (now plan) (now arrivals)
+        × (length (now left) ≤ 512) ⌝ }
+    ensures { λ r. ⌜ Ran (traffic nodes (now (dst .entry)) (now (due .entry))) (now (left .entry)) (length (now (plan .entry)))
+        r (now (left .exit)) (now (plan .exit)) (now (arrivals .exit)) ⌝ }
 {
     let rows = left.len();
     let mut figure = no_figures();

@@ -69,7 +69,8 @@ module _ (T : Traffic) (left : List ℕ) (ring : OnRing T left) (t : ℕ) where
   pub figures-next : turned (T .nodes) (slotOf T t left) (figuresOf T left) ≡ figuresOf T next
   unfolding turned figuresOf
   figures-next =
-      rw (figures-long T left, moved-length T (slotOf T t left) left) (build-ext (length left) after (figure T next) one)
+      rw (figures-long T left, moved-length T (slotOf T t left) left)
+      (build-ext (length left) after (figure T next) one)
     where
       after : ℕ → ℤ
       after i =

@@ -1,4 +1,5 @@
--- One slot planned by figures: what each step of it asks, and what all of it gives, for whatever due slots these are the figures of.
+-- One slot planned by figures: what each step of it asks, and what all of it gives, for whatever due slots these are
+-- the figures of.
 -- Assumes nothing.
 use mathlib.Core.Path.{_≡_, _∙_, ap}
 use mathlib.Core.List.{List}
@@ -14,7 +15,8 @@ use Rattle.slack.specs.Slack.{Traffic, traffic, OnRing, slotOf}
 use Rattle.slack.specs.Figure.{turnOf, figureOf, figure, figuresOf}
 use Rattle.slack.proofs.Signed.{difference-range}
 use Rattle.slack.proofs.Figures.{figure-is, figures-long, figure-at}
-use Rattle.slot.specs.Steps.{board, Placed, lowest, seen, turned, less, stamped, Turning, Sending, Slotted, SlotPlanned}
+use Rattle.slot.specs.Steps.{board, Placed, lowest, seen, turned, less, stamped}
+use Rattle.slot.specs.Steps.{Turning, Sending, Slotted, SlotPlanned}
 use Rattle.slot.proofs.Choosing.{chosen-is-least}
 use Rattle.slot.proofs.Looking.{seen-length, lowest-few}
 use Rattle.slot.proofs.Sending as sending

@@ -4,7 +4,8 @@ ghost use Prim.Native.Nat.{suc, _<_, _^_};
 ghost use lib.ListN.{length};
 ghost use Rattle.slack.specs.Slack.{traffic, OnRing, anyUnderWay};
 ghost use Rattle.slack.specs.Figure.{turnOf, figureOf, figuresOf};
-ghost use Rattle.slot.specs.Steps.{board, Placed, seen, turned, less, stamped, Looking, Turning, Sending, Slotted, SlotPlannedBy};
+ghost use Rattle.slot.specs.Steps.{board, Placed, seen, Looking, turned, Turning};
+ghost use Rattle.slot.specs.Steps.{less, stamped, Sending, Slotted, SlotPlannedBy};
 use lists::clear;
 use ring::Links;
 use ring::Node;
@@ -43,7 +44,8 @@ fn figure_of(nodes: u16, dst: Node, due: Slot, left: Links) -> i32
 // Writes down the figure of each row.
 pub fn write_figures(nodes: u16, dst: &[u16], due: &[u16], left: &[u16], figure: &mut [i32])
     requires { ⌜ OnRing (traffic nodes (now dst) (now due)) (now left) × (length (now figure) ≡ length (now left)) ⌝ }
-    ensures { λ _. ⌜ now (figure .exit) ≡ figuresOf (traffic nodes (now (dst .entry)) (now (due .entry))) (now (left .entry)) ⌝ }
+    ensures { λ _. ⌜ now (figure .exit)
+        ≡ figuresOf (traffic nodes (now (dst .entry)) (now (due .entry))) (now (left .entry)) ⌝ }
 {
     let mut i = 0;
     while i < figure.len() {
@@ -52,10 +54,12 @@ pub fn write_figures(nodes: u16, dst: &[u16], due: &[u16], left: &[u16], figure:
     }
 }
 
-// Looks at row i: where it is under way, its node sends it unless the row that the node would send so far has no higher figure.
+// Looks at row i: where it is under way, its node sends it unless the row that the node would send so far has no
+// higher figure.
 fn look(nodes: u16, dst: &[u16], left: &[u16], figure: &[i32], i: usize, slot: &mut [u16])
     requires { ⌜ Looking (board nodes (now dst) (now left) (now figure)) i (now slot) ⌝ }
-    ensures { λ _. ⌜ now (slot .exit) ≡ seen (board nodes (now (dst .entry)) (now (left .entry)) (now (figure .entry))) (suc i) ⌝ }
+    ensures { λ _. ⌜ now (slot .exit)
+        ≡ seen (board nodes (now (dst .entry)) (now (left .entry)) (now (figure .entry))) (suc i) ⌝ }
 {
     let to_go = left[i];
     if to_go == 0 {
@@ -76,8 +80,10 @@ fn look(nodes: u16, dst: &[u16], left: &[u16], figure: &[i32], i: usize, slot: &
 
 // Says what each link carries: its node's row of lowest figure. No instant counts here, since the figures stand still.
 pub fn choose(nodes: u16, dst: &[u16], left: &[u16], figure: &[i32], slot: &mut [u16])
-    requires { ⌜ Placed (board nodes (now dst) (now left) (now figure)) × (length (now left) < 2 ^ 16) × (length (now slot) ≡ nodes) ⌝ }
-    ensures { λ _. ⌜ now (slot .exit) ≡ seen (board nodes (now (dst .entry)) (now (left .entry)) (now (figure .entry))) (length (now (left .entry))) ⌝ }
+    requires { ⌜ Placed (board nodes (now dst) (now left) (now figure))
+        × (length (now left) < 2 ^ 16) × (length (now slot) ≡ nodes) ⌝ }
+    ensures { λ _. ⌜ now (slot .exit)
+        ≡ seen (board nodes (now (dst .entry)) (now (left .entry)) (now (figure .entry))) (length (now (left .entry))) ⌝ }
 {
     clear(slot);
     let mut i = 0;
@@ -103,7 +109,8 @@ fn pass_node_0(nodes: u16, slot: &[u16], figure: &mut [i32])
 // Moves the rows that a slot names one link on, and stamps each with the instant at which the slot ends.
 pub fn send(t: Slot, slot: &[u16], left: &mut [u16], arrivals: &mut [u16])
     requires { ⌜ Sending (now slot) (now left) (now arrivals) × (suc (t .0) < 2 ^ 16) ⌝ }
-    ensures { λ _. ⌜ (now (left .exit) ≡ less (now (slot .entry)) (now (left .entry))) × (now (arrivals .exit) ≡ stamped (now (slot .entry)) (suc (t .0)) (now (arrivals .entry))) ⌝ }
+    ensures { λ _. ⌜ (now (left .exit) ≡ less (now (slot .entry)) (now (left .entry)))
+        × (now (arrivals .exit) ≡ stamped (now (slot .entry)) (suc (t .0)) (now (arrivals .entry))) ⌝ }
 {
     let end = t.0 + 1;
     let mut p = 0;
@@ -129,7 +136,9 @@ pub fn plan_slot(
     arrivals: &mut [u16],
 )
     requires { ⌜ Slotted nodes (now dst) (t .0) (now left) (now figure) (now slot) (now arrivals) ⌝ }
-    ensures { λ _. ⌜ SlotPlannedBy nodes (now (dst .entry)) (t .0) (now (left .entry)) (now (figure .entry)) (now (arrivals .entry)) (now (slot .exit)) (now (left .exit)) (now (figure .exit)) (now (arrivals .exit)) ⌝ }
+    ensures { λ _. ⌜ SlotPlannedBy nodes (now (dst .entry)) (t .0)
+        (now (left .entry)) (now (figure .entry)) (now (arrivals .entry))
+        (now (slot .exit)) (now (left .exit)) (now (figure .exit)) (now (arrivals .exit)) ⌝ }
 {
     choose(nodes, dst, left, figure, slot);
     pass_node_0(nodes, slot, figure);
