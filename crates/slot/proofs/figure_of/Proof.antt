@@ -22,7 +22,8 @@ cast-result-2 c = search needs
 sub-result : tie.Need-sub-result
 sub-result c =
     let a = c .before .before .before .args in
-    first-fits (a .due .0) (a .dst .0) (c .before .before .turn-of .result) (omega arith) (omega arith) (omega (arith, c .before .before .turn-of .ok))
+    let turn = c .before .before .turn-of in
+    first-fits (a .due .0) (a .dst .0) (turn .result) (omega arith) (omega arith) (omega (arith, turn .ok))
 
 cast-result-3 : tie.Need-cast-result-3
 cast-result-3 c = search needs
@@ -30,13 +31,16 @@ cast-result-3 c = search needs
 sub-result-2 : tie.Need-sub-result-2
 sub-result-2 c =
     let a = c .before .before .before .args in
-    second-fits (a .due .0) (a .dst .0) (c .before .before .turn-of .result) (omega arith) (omega arith) (omega (arith, c .before .before .turn-of .ok))
+    let turn = c .before .before .turn-of in
+    second-fits (a .due .0) (a .dst .0) (turn .result) (omega arith) (omega arith) (omega (arith, turn .ok))
 
 returns : tie.Need-returns
 unfolding figureOf slackOf
 returns c =
     let a = c .before .before .before .args in
-    is-slack (a .due .0) (a .dst .0) (c .before .before .turn-of .result) (omega arith) (omega arith) (omega (arith, c .before .before .turn-of .ok)) ∙ ap (λ (turn : ℕ). slackOf (a .due .0) (a .dst .0) turn) (c .before .before .turn-of .ensures)
+    let turn = c .before .before .turn-of in
+    is-slack (a .due .0) (a .dst .0) (turn .result) (omega arith) (omega arith) (omega (arith, turn .ok))
+    ∙ ap (λ (k : ℕ). slackOf (a .due .0) (a .dst .0) k) (turn .ensures)
 
 pub figure-of-spec : {M : Type 1} → statement M
 figure-of-spec =

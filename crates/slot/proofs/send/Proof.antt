@@ -2,29 +2,39 @@
 -- Assumes nothing.
 use mathlib.Core.Path.{_≡_, _∙_, ap, sym}
 use mathlib.Core.Logic.{⊎-elim}
-use Prim.Native.Nat.{_+_, _≤_, _-_}
+use Prim.Native.Nat.{ℕ, _+_, _≤_, _-_}
 use native.Mathlib.Numerals.{add-one}
 use native.Mathlib.Omega.{arith}
 use lib.ListN.{length, take}
 use lib.Seq.{take-all}
 use Rattle.slot.specs.Steps.{less, stamped}
-use Rattle.slot.proofs.Sending.{left-first, arrivals-first, left-long, arrivals-long, left-idle, arrivals-idle, row-inside, left-some, left-sent, arrivals-sent}
+use Rattle.slot.proofs.Sending.{left-first, left-long, left-idle, left-some, left-sent}
+use Rattle.slot.proofs.Sending.{arrivals-first, arrivals-long, arrivals-idle, arrivals-sent, row-inside}
 use Rattle.slot.proofs.send.Statement.{statement}
 use Rattle.slot.proofs.send.Tie as tie
 
 abbrev Inv-loop : tie.InvT-loop
-Inv-loop slot left₀ arrivals₀ end p₀ left arrivals p = (p ≤ length slot) × (left ≡ less (take p slot) left₀) × (arrivals ≡ stamped (take p slot) end arrivals₀)
+Inv-loop slot left₀ arrivals₀ end p₀ left arrivals p =
+    (p ≤ length slot) × (left ≡ less (take p slot) left₀) × (arrivals ≡ stamped (take p slot) end arrivals₀)
 
 abbrev μ-loop : tie.MeasureT-loop
 μ-loop slot left₀ arrivals₀ end p₀ left arrivals p = length slot - p
+
+-- What `send` was asked, and the instant that it stamps, from a turn of its loop.
+abbrev asked : tie.At-loop Inv-loop μ-loop → tie.Start Inv-loop μ-loop
+asked l = l .before .before
+
+abbrev end-of : tie.At-loop Inv-loop μ-loop → ℕ
+end-of l = asked l .args .t .0 + 1
 
 add-end : tie.Need-add-end Inv-loop μ-loop
 add-end c = omega arith
 
 loop-holds : tie.Need-loop-holds Inv-loop μ-loop
 loop-holds c =
-    let k = c .before .pre .0 in
-    (omega arith, left-first k (c .before .args .t .0 + 1), arrivals-first k (c .before .args .t .0 + 1))
+    let s = c .before in
+    let end = s .args .t .0 + 1 in
+    (omega arith, left-first (s .pre .0) end, arrivals-first (s .pre .0) end)
 
 mul-row : tie.Need-mul-row Inv-loop μ-loop
 mul-row c = omega arith
@@ -43,37 +53,35 @@ mul-left c = omega (arith, c .before .shared-slice-known .given (c .before .befo
 
 slice-read-left : tie.Need-slice-read-left Inv-loop μ-loop
 slice-read-left c =
-    let k = c .before .before .before .before .before .before .pre .0 in
-    let end = c .before .before .before .before .before .before .args .t .0 + 1 in
-    let p = c .before .before .before .before .loop .p in
-    omega (arith, row-inside k end p (omega arith) (omega arith), left-long k end p, ap length (c .before .before .before .before .loop .inv .1))
+    let l = c .before .before .before .before in
+    let k = asked l .pre .0 in
+    let here = row-inside k (end-of l) (l .loop .p) (omega arith) (omega arith) in
+    omega (arith, here, left-long k (end-of l) (l .loop .p), ap length (l .loop .inv .1))
 
 sub-left : tie.Need-sub-left Inv-loop μ-loop
 sub-left c =
-    let k = c .before .before .before .before .before .before .pre .0 in
-    let end = c .before .before .before .before .before .before .args .t .0 + 1 in
-    let p = c .before .before .before .before .loop .p in
-    rw (c .before .before .before .before .loop .inv .1) (left-some k end p (omega arith) (omega arith))
+    let l = c .before .before .before .before in
+    rw (l .loop .inv .1) (left-some (asked l .pre .0) (end-of l) (l .loop .p) (omega arith) (omega arith))
 
 mul-left-2 : tie.Need-mul-left-2 Inv-loop μ-loop
 mul-left-2 c = omega (arith, c .before .before .shared-slice-known .given (c .before .before .before .before .loop .p))
 
 slice-write-left : tie.Need-slice-write-left Inv-loop μ-loop
 slice-write-left c =
-    let k = c .before .before .before .before .before .before .pre .0 in
-    let end = c .before .before .before .before .before .before .args .t .0 + 1 in
-    let p = c .before .before .before .before .loop .p in
-    omega (arith, row-inside k end p (omega arith) (omega arith), left-long k end p, ap length (c .before .before .before .before .loop .inv .1))
+    let l = c .before .before .before .before in
+    let k = asked l .pre .0 in
+    let here = row-inside k (end-of l) (l .loop .p) (omega arith) (omega arith) in
+    omega (arith, here, left-long k (end-of l) (l .loop .p), ap length (l .loop .inv .1))
 
 mul-arrivals : tie.Need-mul-arrivals Inv-loop μ-loop
 mul-arrivals c = omega (arith, c .before .before .shared-slice-known .given (c .before .before .before .before .loop .p))
 
 slice-write-arrivals : tie.Need-slice-write-arrivals Inv-loop μ-loop
 slice-write-arrivals c =
-    let k = c .before .before .before .before .before .before .pre .0 in
-    let end = c .before .before .before .before .before .before .args .t .0 + 1 in
-    let p = c .before .before .before .before .loop .p in
-    omega (arith, row-inside k end p (omega arith) (omega arith), arrivals-long k end p, ap length (c .before .before .before .before .loop .inv .2))
+    let l = c .before .before .before .before in
+    let k = asked l .pre .0 in
+    let here = row-inside k (end-of l) (l .loop .p) (omega arith) (omega arith) in
+    omega (arith, here, arrivals-long k (end-of l) (l .loop .p), ap length (l .loop .inv .2))
 
 add-p : tie.Need-add-p Inv-loop μ-loop
 add-p c = omega arith
@@ -83,29 +91,39 @@ loop-less c = omega arith
 
 loop-again : tie.Need-loop-again Inv-loop μ-loop
 loop-again c =
-    let k = c .before .before .before .before .before .pre .0 in
-    let end = c .before .before .before .before .before .args .t .0 + 1 in
-    let p = c .before .before .before .loop .p in (
+    let l = c .before .before .before in
+    let k = asked l .pre .0 in
+    let p = l .loop .p in
+    let left = l .loop .inv .1 in
+    let arrivals = l .loop .inv .2 in (
       omega arith,
-      ⊎-elim (λ w. w .2 ∙ left-sent k end p (omega arith) (w .0 .taken) _ (c .before .before .before .loop .inv .1)) (λ w. w .1 ∙ c .before .before .before .loop .inv .1 ∙ left-idle k end p (omega arith) (omega arith)) (c .if1 .came),
-      ⊎-elim (λ w. w .3 ∙ arrivals-sent k end p (omega arith) (w .0 .taken) _ (c .before .before .before .loop .inv .2)) (λ w. w .2 ∙ c .before .before .before .loop .inv .2 ∙ arrivals-idle k end p (omega arith) (omega arith)) (c .if1 .came),
+      ⊎-elim
+          (λ w. w .2 ∙ left-sent k (end-of l) p (omega arith) (w .0 .taken) _ left)
+          (λ w. w .1 ∙ left ∙ left-idle k (end-of l) p (omega arith) (omega arith))
+          (c .if1 .came),
+      ⊎-elim
+          (λ w. w .3 ∙ arrivals-sent k (end-of l) p (omega arith) (w .0 .taken) _ arrivals)
+          (λ w. w .2 ∙ arrivals ∙ arrivals-idle k (end-of l) p (omega arith) (omega arith))
+          (c .if1 .came),
     )
 
 same-length : tie.Need-same-length Inv-loop μ-loop
 same-length c =
-    let k = c .before .before .before .pre .0 in
-    ap length (c .before .loop .inv .1) ∙ left-long k (c .before .before .before .args .t .0 + 1) (c .before .loop .p)
+    let l = c .before in
+    ap length (l .loop .inv .1) ∙ left-long (asked l .pre .0) (end-of l) (l .loop .p)
 
 same-length-2 : tie.Need-same-length-2 Inv-loop μ-loop
 same-length-2 c =
-    let k = c .before .before .before .pre .0 in
-    ap length (c .before .loop .inv .2) ∙ arrivals-long k (c .before .before .before .args .t .0 + 1) (c .before .loop .p) ∙ sym (k .rows)
+    let l = c .before in
+    let k = asked l .pre .0 in
+    ap length (l .loop .inv .2) ∙ arrivals-long k (end-of l) (l .loop .p) ∙ sym (k .rows)
 
 returns : tie.Need-returns Inv-loop μ-loop
 returns c =
-    let slot = c .before .before .before .args .slot .now in
-    let all : take (c .before .loop .p) slot ≡ slot = take-all (c .before .loop .p) slot (omega arith) in
-    (c .before .loop .inv .1 ∙ rw all, c .before .loop .inv .2 ∙ rw (all, add-one))
+    let l = c .before in
+    let slot = asked l .args .slot .now in
+    let all : take (l .loop .p) slot ≡ slot = take-all (l .loop .p) slot (omega arith) in
+    (l .loop .inv .1 ∙ rw all, l .loop .inv .2 ∙ rw (all, add-one))
 
 pub send-spec : {M : Type 1} → statement M
 send-spec =
