@@ -3,3 +3,4 @@ pub mod Figures
 pub mod Filling
 pub mod FirstPlace
 pub mod Fronts
+pub mod Truth

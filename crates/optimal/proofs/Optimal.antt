@@ -10,11 +10,11 @@ use native.Mathlib.Nat.{suc-mul, mul-le-mul-right}
 use native.Mathlib.Omega.{arith}
 use native.Mathlib.Decide.{decLt}
 use mathlib.Core.List.{List, _++_}
-use lib.ListN.{length, getD, take, drop, length-append, length-drop}
+use lib.ListN.{length, getD, take, drop, length-drop}
 use lib.Seq.{take-append-le, drop-append-le, drop-at, take-all}
 use Rattle.slack.specs.Slack.{Traffic, OnRing, moved, slotOf, pick, stateAt, planOf, lateRow, stopOf}
 use Rattle.slack.proofs.Ending.{Ended, stop-first, stop-delivered}
-use Rattle.slack.proofs.Rule.{none-under-way, slot-length, slot-entry, pick-least, late-none, none-late, not-late-then, then-not-late, moved-length, run-length, run-on-ring, run-less, state-length, state-on-ring}
+use Rattle.slack.proofs.Rule.{none-under-way, slot-length, plan-length, slot-entry, pick-least, late-none, none-late, not-late-then, then-not-late, moved-length, run-length, run-on-ring, run-less, state-length, state-on-ring}
 use Rattle.optimal.specs.Schedule.{Schedule, Legal, Meets, namedIn, leftAt}
 use Rattle.optimal.proofs.Count.{count-none}
 use Rattle.optimal.proofs.Window.{must, window-on-time, window-before, window-after}
@@ -98,13 +98,6 @@ module _ (T : Traffic) (start schedule : List ℕ) where
 -- ---- the rule's own plan
 
 module _ (T : Traffic) (start : List ℕ) where
-  plan-length : (slots : ℕ) → length (planOf T start slots) ≡ slots * T .nodes
-  unfolding planOf
-  plan-length zero = omega arith
-  plan-length (suc t) =
-      length-append (planOf T start t) (slotOf T t (stateAt T start t))
-      ∙ omega (arith, plan-length t, slot-length T t (stateAt T start t), suc-mul t (T .nodes))
-
   -- What the plan names in slot t is the rule's slot t.
   plan-names : (slots t : ℕ) → t < slots → namedIn T (planOf T start slots) t ≡ slotOf T t (stateAt T start t)
   unfolding planOf namedIn
@@ -123,12 +116,12 @@ module _ (T : Traffic) (start : List ℕ) where
       go : Dec (t < slots) → (t < slots → namedIn T plan t ≡ slotOf T t (stateAt T start t))
           → take n (drop (t * n) (plan ++ slot)) ≡ slotOf T t (stateAt T start t)
       go (yes d) more =
-          let room : t * n + n ≤ length plan = omega (arith, plan-length slots, suc-mul t n, mul-le-mul-right n d) in
+          let room : t * n + n ≤ length plan = omega (arith, plan-length T start slots, suc-mul t n, mul-le-mul-right n d) in
           let rest : n ≤ length (drop (t * n) plan) = omega (arith, length-drop (t * n) plan) in
           rw (drop-append-le (t * n) plan slot (omega arith), take-append-le n (drop (t * n) plan) slot rest) (more d)
       go (no d) more =
           let e : t ≡ slots = omega arith in
-          rw (e, drop-at plan slot (slots * n) (plan-length slots), take-all n slot (omega (arith, slot-length T slots (stateAt T start slots))))
+          rw (e, drop-at plan slot (slots * n) (plan-length T start slots), take-all n slot (omega (arith, slot-length T slots (stateAt T start slots))))
 
   -- So the plan's run is the rule's.
   plan-state : (slots t : ℕ) → t ≤ slots → leftAt T start (planOf T start slots) t ≡ stateAt T start t

@@ -22,8 +22,8 @@ pub arrivals-long : (T : Traffic) (start : List ℕ) (slots : ℕ) → length (a
 unfolding arrivalsOf
 arrivals-long T start slots = length-build (length start) _
 
-module _ {T : Traffic} {start plan₀ arrivals₀ plan′ arrivals′ : List ℕ} {stop : Stop}
-    (k : Runnable T start plan₀ arrivals₀) (ran : Ran T start (length plan₀) stop plan′ arrivals′) where
+module _ {T : Traffic} {start plan₀ arrivals₀ left′ plan′ arrivals′ : List ℕ} {stop : Stop}
+    (k : Runnable T start plan₀ arrivals₀) (ran : Ran T start (length plan₀) stop left′ plan′ arrivals′) where
   abbrev last : ℕ
   last = largest (T .due)
 

@@ -21,8 +21,7 @@ use Rattle.table.specs.Table.{judgeRows, refuse, distances, lastDue}
 use Rattle.table.specs.Steps.{rowsOf, Measuring}
 use Rattle.table.proofs.Judging.{GoodRow, good-rows, rows-long, rows-at, its-destinations, its-dues, its-distances}
 use Rattle.slack.specs.Slack.{traffic, OnRing, planOf, arrivalsOf, stopOf}
-use Rattle.run.proofs.Walking.{plan-length}
-use Rattle.run.specs.Steps.{AllUnderWay}
+use Rattle.slack.proofs.Rule.{plan-length}
 use Rattle.planner.specs.declared.Answer.{Answer}
 use Rattle.planner.specs.declared.Summary.{Summary}
 use Rattle.planner.specs.declared.Answer.the-variants.{Accepted, Refused}
@@ -76,7 +75,8 @@ module _ {n : ℕ} {src dst due : List ℕ} (k : Tabled n src dst due) (good : j
         left-inside = λ i h. rw (start-at i h .1) (within-turn n (getD src i 0) (getD dst i 0) (row i (start-at i h .0) .dst-inside));
       }
 
-  pub under-way : AllUnderWay start
+  -- Every row of a well-formed table has links to go.
+  pub under-way : (i : ℕ) → i < length start → 0 < getD start i 0
   under-way i h =
       let r = row i (start-at i h .0) in
       rw (start-at i h .1) (apart n (getD src i 0) (getD dst i 0) (r .src-inside) (r .dst-inside) (r .apart))
@@ -91,7 +91,6 @@ module _ {n : ℕ} {src dst due : List ℕ} (k : Tabled n src dst due) (good : j
           room = p;
           rows = a ∙ sym start-long;
         };
-        under-way = under-way;
         few = omega (arith, start-long, k .same .few);
         small = omega (arith, p, room-small);
       })

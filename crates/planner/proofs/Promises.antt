@@ -29,9 +29,7 @@ use Rattle.table.specs.Steps.{none, sources, rowsOf}
 use Rattle.table.proofs.Rows.{rows-of-columns, same-rows}
 use Rattle.table.proofs.Judging.{good-rows}
 use Rattle.slack.specs.Slack.{Traffic, OnRing, underWay, planOf, stateAt, deliveredFrom, arrivalsOf, lateRow, stopOf}
-use Rattle.run.specs.Steps.{AllUnderWay}
-use Rattle.run.proofs.Walking.{plan-length}
-use Rattle.slack.proofs.Rule.{LowestLate, late-lowest}
+use Rattle.slack.proofs.Rule.{LowestLate, late-lowest, plan-length}
 use Rattle.slack.proofs.Ending.{stop-first}
 use Rattle.optimal.specs.Schedule.{busy}
 use Rattle.optimal.proofs.Optimal.{plan-is-schedule, late-iff-none}
@@ -196,7 +194,7 @@ last-above-zero n rows well some =
     there : 0 < length start
     there = omega (arith, distances-long n rows)
 
-    going : AllUnderWay start
+    going : (i : ℕ) → i < length start → 0 < getD start i 0
     going = rw (its-links n rows well) (under-way (tabled n rows well) (all-good n rows well))
 
     due-later : 0 < lastDue rows

@@ -11,7 +11,7 @@ use Rattle.table.specs.Table.{refuse}
 use Rattle.table.specs.Steps.{SameRows}
 use Rattle.slack.specs.declared.Stop.{Stop}
 use Rattle.slack.specs.Slack.{Traffic, planOf, arrivalsOf, stopOf}
-use Rattle.run.specs.Steps.{Ready, AllUnderWay}
+use Rattle.run.specs.Steps.{Ready}
 use Rattle.planner.specs.declared.Answer.{Answer}
 use Rattle.planner.specs.declared.Answer.the-variants.{Accepted, Refused}
 use Rattle.planner.specs.Planner.{summaryOf, answerToRows, areaAfter, thePlan, theArrivals}
@@ -19,7 +19,6 @@ use Rattle.planner.specs.Planner.{summaryOf, answerToRows, areaAfter, th
 -- A run can be planned, and its figures are small enough to be counted.
 pub record Runnable (T : Traffic) (left plan arrivals : List ℕ) : Type 0 where
   pub ready : Ready T left plan arrivals
-  pub under-way : AllUnderWay left
   pub few : length left ≤ 512
   pub small : length plan ≤ 32768
 

@@ -17,7 +17,7 @@ use Rattle.table.specs.Table.{judge, WellFormed, dues, distances, lastDue}
 use Rattle.table.specs.Steps.{listed}
 use Rattle.table.proofs.Rows.{length-listed}
 use Rattle.table.proofs.Judging.{its-dues}
-use Rattle.run.proofs.Walking.{plan-length}
+use Rattle.slack.proofs.Rule.{plan-length}
 use Rattle.planner.specs.declared.Answer.{Answer}
 use Rattle.planner.specs.declared.Summary.{Summary}
 use Rattle.planner.specs.declared.Answer.the-variants.{Accepted, Refused}

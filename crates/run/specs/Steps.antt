@@ -1,21 +1,25 @@
--- What a run asks and gives, and what its steps do. The planner's promise speaks of Slack.antt of the room above; nothing here has to be believed.
+-- What a run asks and gives, and what its steps do. The planner's promise speaks of Slack.antt of the room above;
+-- nothing here has to be believed.
 use Prim.Native.Nat.{ℕ, zero, suc, _*_, _<_, _^_}
 use mathlib.Core.Path.{_≡_}
 use mathlib.Core.Bool.{cond}
 use mathlib.Core.List.{List, _++_}
 use lib.Dec.{eqb}
-use lib.ListN.{length, getD, drop, replicate}
+use lib.IntN.{ℤ}
+use lib.ListN.{length, drop, replicate}
 use Rattle.lists.specs.Lists.{largest}
 use Rattle.slack.specs.Slack.{Traffic, OnRing, slotOf, stateAt, planOf, arrivalsOf, stopOf}
-use Rattle.slack.specs.Steps.{stamped}
+use Rattle.slack.specs.Figure.{figuresOf}
 use Rattle.slack.specs.declared.Stop.{Stop}
+use Rattle.slot.specs.Steps.{stamped}
 
 -- The list after the first t slots of a run, each of which has stamped its rows with the instant at which it ends.
 unfoldable pub stampedBy : Traffic → (start list : List ℕ) → ℕ → List ℕ
 stampedBy T start list zero = list
 stampedBy T start list (suc t) = stamped (slotOf T t (stateAt T start t)) (suc t) (stampedBy T start list t)
 
--- A run can be planned: there is an entry for each link in each slot below the largest due slot, and an arrival for each row.
+-- A run can be planned: there is an entry for each link in each slot below the largest due slot, and an arrival for
+-- each row. Any row may have nothing to go.
 pub record Ready (T : Traffic) (left plan arrivals : List ℕ) : Type 0 where
   pub ring : OnRing T left
   pub few : length left < 2 ^ 16
@@ -23,18 +27,21 @@ pub record Ready (T : Traffic) (left plan arrivals : List ℕ) : Type 0 where
   pub room : length plan ≡ T .nodes * largest (T .due)
   pub rows : length arrivals ≡ length left
 
--- What the walk over the instants gives: where it stopped, and the slots and stamps up to there.
-pub record Walked (T : Traffic) (start plan arrivals : List ℕ) (stop : Stop) (plan′ arrivals′ : List ℕ) : Type 0 where
+-- What the walk over the instants gives: where it stopped, the state there and its figures, and the slots and stamps
+-- up to there.
+pub record Walked (T : Traffic) (start plan arrivals : List ℕ) (stop : Stop)
+    (left′ : List ℕ) (figures′ : List ℤ) (plan′ arrivals′ : List ℕ) : Type 0 where
   pub stops : stop ≡ stopOf T start (largest (T .due))
+  pub state : left′ ≡ stateAt T start (stop .slot .0)
+  pub figured : figures′ ≡ figuresOf T (stateAt T start (stop .slot .0))
   pub carries : plan′ ≡ planOf T start (stop .slot .0) ++ drop (stop .slot .0 * T .nodes) plan
   pub stamps : arrivals′ ≡ stampedBy T start arrivals (stop .slot .0)
 
--- Every row has links to go.
-abbrev pub AllUnderWay : List ℕ → Type 0
-AllUnderWay left = (i : ℕ) → i < length left → 0 < getD left i 0
-
--- What a run gives: where it ended, and both areas, which hold the plan and the arrivals where no row is late and zeros where one is.
-pub record Ran (T : Traffic) (start : List ℕ) (room : ℕ) (stop : Stop) (plan′ arrivals′ : List ℕ) : Type 0 where
+-- What a run gives: where it ended, the state there, and both areas, which hold the plan and the arrivals where no row
+-- is late and zeros where one is.
+pub record Ran (T : Traffic) (start : List ℕ) (room : ℕ) (stop : Stop) (left′ plan′ arrivals′ : List ℕ) : Type 0 where
   pub stops : stop ≡ stopOf T start (largest (T .due))
+  pub leaves : left′ ≡ stateAt T start (stop .slot .0)
   pub carries : plan′ ≡ cond (eqb (stop .row) 0) (planOf T start (largest (T .due))) (replicate room 0)
-  pub arrives : arrivals′ ≡ cond (eqb (stop .row) 0) (arrivalsOf T start (largest (T .due))) (replicate (length start) 0)
+  pub arrives : arrivals′
+      ≡ cond (eqb (stop .row) 0) (arrivalsOf T start (largest (T .due))) (replicate (length start) 0)

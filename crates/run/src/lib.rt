@@ -5,18 +5,19 @@ ghost use lib.IntN.{ℤ, pos};
 ghost use lib.ListN.{length, replicate};
 ghost use Rattle.slack.specs.Slack.{traffic};
 ghost use Rattle.slack.specs.Figure.{figuresOf};
-ghost use Rattle.run.specs.Steps.{Ready, Walked, AllUnderWay, Ran};
+ghost use Rattle.run.specs.Steps.{Ready, Walked, Ran};
 use lists::clear;
 use ring::Links;
 use ring::Slot;
 use slack::Stop;
-use slack::any_under_way;
 use slack::is_late;
-use slack::plan_slot;
-use slack::write_figures;
+use slot::any_under_way;
+use slot::plan_slot;
+use slot::write_figures;
 
-// Walks over the instants until no row is under way, and over the rows at each; it is left at the first row that is late.
-pub fn walk(
+// Walks over the instants until no row is under way, and over the rows at each; it is left at the first row that is
+// late.
+fn walk(
     nodes: u16,
     dst: &[u16],
     due: &[u16],
@@ -25,8 +26,11 @@ pub fn walk(
     plan: &mut [u16],
     arrivals: &mut [u16],
 ) -> Stop
-    requires { ⌜ Ready (traffic nodes (now dst) (now due)) (now left) (now plan) (now arrivals) × (now figure ≡ figuresOf (traffic nodes (now dst) (now due)) (now left)) ⌝ }
-    ensures { λ r. ⌜ Walked (traffic nodes (now (dst .entry)) (now (due .entry))) (now (left .entry)) (now (plan .entry)) (now (arrivals .entry)) r (now (plan .exit)) (now (arrivals .exit)) ⌝ }
+    requires { ⌜ Ready (traffic nodes (now dst) (now due)) (now left) (now plan) (now arrivals)
+        × (now figure ≡ figuresOf (traffic nodes (now dst) (now due)) (now left)) ⌝ }
+    ensures { λ r. ⌜ Walked (traffic nodes (now (dst .entry)) (now (due .entry)))
+        (now (left .entry)) (now (plan .entry)) (now (arrivals .entry))
+        r (now (left .exit)) (now (figure .exit)) (now (plan .exit)) (now (arrivals .exit)) ⌝ }
 {
     let mut t = 0u16;
     let mut late = 0u16;
@@ -58,7 +62,8 @@ pub fn walk(
     }
 }
 
-// Plans a run of which the figures are written down: the plan and the arrivals where every row is in time, and both areas cleared where one is late.
+// Plans a run of which the figures are written down: the plan and the arrivals where every row is in time, and both
+// areas cleared where one is late.
 fn run_figured(
     nodes: u16,
     dst: &[u16],
@@ -68,9 +73,12 @@ fn run_figured(
     plan: &mut [u16],
     arrivals: &mut [u16],
 ) -> Stop
-    requires { ⌜ Ready (traffic nodes (now dst) (now due)) (now left) (now plan) (now arrivals) × AllUnderWay (now left) × (now figure ≡ figuresOf (traffic nodes (now dst) (now due)) (now left)) ⌝ }
-    ensures { λ r. ⌜ Ran (traffic nodes (now (dst .entry)) (now (due .entry))) (now (left .entry)) (length (now (plan .entry))) r (now (plan .exit)) (now (arrivals .exit)) ⌝ }
+    requires { ⌜ Ready (traffic nodes (now dst) (now due)) (now left) (now plan) (now arrivals)
+        × (now figure ≡ figuresOf (traffic nodes (now dst) (now due)) (now left)) ⌝ }
+    ensures { λ r. ⌜ Ran (traffic nodes (now (dst .entry)) (now (due .entry))) (now (left .entry)) (length (now (plan .entry)))
+        r (now (left .exit)) (now (plan .exit)) (now (arrivals .exit)) ⌝ }
 {
+    clear(arrivals); // no slot stamps a row that has nothing to go
     let stop = walk(nodes, dst, due, left, figure, plan, arrivals);
     if stop.row == 0 {
         let idle = stop.slot.0 as usize * nodes as usize;
@@ -89,7 +97,7 @@ fn no_figures() -> [i32; 512]
     [0i32; 512]
 }
 
-// Plans a whole run of at most 512 rows.
+// Plans a whole run of at most 512 rows, of which any may have nothing to go.
 pub fn run(
     nodes: u16,
     dst: &[u16],
@@ -98,8 +106,10 @@ pub fn run(
     plan: &mut [u16],
     arrivals: &mut [u16],
 ) -> Stop
-    requires { ⌜ Ready (traffic nodes (now dst) (now due)) (now left) (now plan) (now arrivals) × AllUnderWay (now left) × (length (now left) ≤ 512) ⌝ }
-    ensures { λ r. ⌜ Ran (traffic nodes (now (dst .entry)) (now (due .entry))) (now (left .entry)) (length (now (plan .entry))) r (now (plan .exit)) (now (arrivals .exit)) ⌝ }
+    requires { ⌜ Ready (traffic nodes (now dst) (now due)) (now left) (now plan) (now arrivals)
+        × (length (now left) ≤ 512) ⌝ }
+    ensures { λ r. ⌜ Ran (traffic nodes (now (dst .entry)) (now (due .entry))) (now (left .entry)) (length (now (plan .entry)))
+        r (now (left .exit)) (now (plan .exit)) (now (arrivals .exit)) ⌝ }
 {
     let rows = left.len();
     let mut figure = no_figures();

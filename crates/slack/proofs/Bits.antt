@@ -7,7 +7,7 @@ use mir.Syntax.{w32}
 use mir.Val.{SFits, toZ, ofZ}
 use mir.Facts.{toZ-ofZ, toZ-pos}
 use borrow.Author.Needs.{sfits-of}
-use mathlib.Core.Bool.{Bool, _&&_}
+use mathlib.Core.Bool.{_&&_}
 use borrow.Author.Tests.{lt-ltb}
 use lib.Dec.{ltb}
 use lib.Signed.{ltZ, mag}
@@ -22,7 +22,9 @@ whole x h = toZ-pos w32 (omega arith)
 module _ (due t left : ℕ) (hd : due < 2 ^ 16) (ht : t < 2 ^ 16) (hl : left < 2 ^ 16) where
   -- due - t fits
   pub first-fits : SFits w32 (toZ w32 due -ℤ toZ w32 t)
-  first-fits = sfits-of (rw (whole due hd, whole t ht, less-of-pos due t) (difference-range due t (2 ^ 31) (omega arith) (omega arith)))
+  first-fits =
+      sfits-of (rw (whole due hd, whole t ht, less-of-pos due t)
+      (difference-range due t (2 ^ 31) (omega arith) (omega arith)))
 
   both : toZ w32 (ofZ w32 (toZ w32 due -ℤ toZ w32 t)) -ℤ toZ w32 left ≡ slackOf due t left
   unfolding slackOf
@@ -32,13 +34,12 @@ module _ (due t left : ℕ) (hd : due < 2 ^ 16) (ht : t < 2 ^ 16) (hl : left < 2
   pub second-fits : SFits w32 (toZ w32 (ofZ w32 (toZ w32 due -ℤ toZ w32 t)) -ℤ toZ w32 left)
   second-fits = sfits-of (rw both (slack-range due t left hd ht hl))
 
-  pub is-slack : toZ w32 (ofZ w32 (toZ w32 (ofZ w32 (toZ w32 due -ℤ toZ w32 t)) -ℤ toZ w32 left)) ≡ slackOf due t left
+  pub is-slack : toZ w32 (ofZ w32 (toZ w32 (ofZ w32 (toZ w32 due -ℤ toZ w32 t)) -ℤ toZ w32 left))
+      ≡ slackOf due t left
   is-slack = toZ-ofZ second-fits ∙ both
 
 -- the test of a computed slack against zero, for a row under way
-pub below-zero : (left : ℕ) (z s : ℤ) → 0 < left → mag z < 2 ^ 31 → z ≡ s → ltZ (toZ w32 (ofZ w32 z)) (pos 0) ≡ (ltb 0 left && ltZ s (pos 0))
-below-zero left z s under-way fits e = rw (toZ-ofZ (sfits-of {w = w32} {z = z} fits), e, lt-ltb 0 left under-way)
-
--- the comparison of two computed slacks
-pub compared : (z z′ s s′ : ℤ) (b : Bool) → mag z < 2 ^ 31 → mag z′ < 2 ^ 31 → z ≡ s → z′ ≡ s′ → ltZ (toZ w32 (ofZ w32 z)) (toZ w32 (ofZ w32 z′)) ≡ b → ltZ s s′ ≡ b
-compared z z′ s s′ b f f′ e e′ = rw (toZ-ofZ (sfits-of {w = w32} {z = z} f), toZ-ofZ (sfits-of {w = w32} {z = z′} f′), e, e′) (λ t. t)
+pub below-zero : (left : ℕ) (z s : ℤ) → 0 < left → mag z < 2 ^ 31 → z ≡ s
+    → ltZ (toZ w32 (ofZ w32 z)) (pos 0) ≡ (ltb 0 left && ltZ s (pos 0))
+below-zero left z s under-way fits e =
+    rw (toZ-ofZ (sfits-of {w = w32} {z = z} fits), e, lt-ltb 0 left under-way)

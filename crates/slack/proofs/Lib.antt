@@ -1,11 +1,6 @@
 pub mod Signed
-pub mod Joined
+pub mod Bits
 pub mod Rule
 pub mod Ending
-mod Bits
-mod Search
-mod Looking
-mod Turning
+pub mod Search
 pub mod Figures
-pub mod Sending
-mod Slotting

@@ -1,8 +1,13 @@
--- What document 01 says of the sending rule, shown of its definitions: which row is late, which row a node sends, where a row stands, how a slot changes the state.
+-- What document 01 says of the sending rule, shown of its definitions.
+--     late-then .. then-not-late, late-lowest, late-none     which row is late
+--     pick-least, pick-none, slot-names                      which row a node sends
+--     place-inside, moved-.., run-.., state-..               where a row stands, how a slot changes the state
+--     slot-length, plan-length                               how long a slot and a plan are
+--     none-under-way, some-under-way                         when all are delivered
 -- Slack appears here as natural numbers: row i has no more slack than row j where due i + left j ≤ due j + left i.
 -- Assumes nothing.
 use mathlib.Core.Path.{_≡_, refl, _∙_, ap, sym}
-use Prim.Native.Nat.{ℕ, zero, suc, _+_, _-_, _≤_, _<_}
+use Prim.Native.Nat.{ℕ, zero, suc, _+_, _-_, _*_, _≤_, _<_}
 use native.Mathlib.Nat.{not-suc-le-zero}
 use native.Mathlib.Omega.{arith}
 use native.Mathlib.Decide.{ℕ-discrete, decLt}
@@ -10,68 +15,104 @@ use mathlib.Core.Bool.{Bool, true, false, cond, _&&_, _||_}
 use mathlib.Core.List.{List, [], _∷_}
 use borrow.Author.Tests.{ltb-true, ltb-false, lt-ltb, eqb-true, eq-eqb, ne-eqb}
 use lib.Dec.{ltb, eqb}
-use lib.ListN.{length, getD}
+use lib.ListN.{length, getD, length-append}
 use Rattle.lists.proofs.Build.{length-build, getD-build}
+use Rattle.lists.proofs.Truth.{differ, both-hold, neither, not-both}
 use Rattle.ring.specs.Ring.{standing}
 use Rattle.ring.proofs.Turn.{on-ring}
-use Rattle.slack.specs.Slack.{Traffic, OnRing, underWay, place, slack, isLate, lateFrom, lateRow, better, pick, slotOf, moved, stateAt, anyUnderWay}
-use Rattle.slack.proofs.Joined.{differ, both-hold, neither, not-both}
+use Rattle.slack.specs.Slack.{Traffic, OnRing, underWay, place, slack, isLate, lateFrom, lateRow}
+use Rattle.slack.specs.Slack.{better, pick, slotOf, moved, stateAt, planOf, anyUnderWay}
 use Rattle.slack.proofs.Signed.{slack-below-zero, slack-compared}
+
+-- a row's due slot, and its links to go
+abbrev due : Traffic → ℕ → ℕ
+due T i = getD (T .due) i 0
+
+abbrev links : List ℕ → ℕ → ℕ
+links left i = getD left i 0
 
 -- ---- late
 
 module _ (T : Traffic) (t : ℕ) (left : List ℕ) where
-  late-test : (i : ℕ) → isLate T t left i ≡ ltb 0 (getD left i 0) && ltb (getD (T .due) i 0) (t + getD left i 0)
+  -- the two tests that make a row late
+  abbrev way : ℕ → Bool
+  way i = ltb 0 (links left i)
+
+  abbrev missed : ℕ → Bool
+  missed i = ltb (due T i) (t + links left i)
+
+  late-test : (i : ℕ) → isLate T t left i ≡ way i && missed i
   unfolding isLate underWay slack
-  late-test i = ap (λ b. ltb 0 (getD left i 0) && b) (slack-below-zero (getD (T .due) i 0) t (getD left i 0))
+  late-test i = ap (λ b. way i && b) (slack-below-zero (due T i) t (links left i))
 
   -- A late row is under way, and its due slot comes before it can be there, even without waiting.
-  pub late-then : (i : ℕ) → isLate T t left i ≡ true → (0 < getD left i 0) × (getD (T .due) i 0 < t + getD left i 0)
+  pub late-then : (i : ℕ) → isLate T t left i ≡ true → (0 < links left i) × (due T i < t + links left i)
   late-then i e =
-      let h = both-hold (ltb 0 (getD left i 0)) (ltb (getD (T .due) i 0) (t + getD left i 0)) (sym (late-test i) ∙ e) in
-      (ltb-true 0 (getD left i 0) (h .0), ltb-true (getD (T .due) i 0) (t + getD left i 0) (h .1))
+      let (w, l) = both-hold (way i) (missed i) (sym (late-test i) ∙ e) in
+      (ltb-true 0 (links left i) w, ltb-true (due T i) (t + links left i) l)
 
   -- A row that is not late and under way can still be there in time.
-  pub not-late-then : (i : ℕ) → isLate T t left i ≡ false → 0 < getD left i 0 → t + getD left i 0 ≤ getD (T .due) i 0
+  pub not-late-then : (i : ℕ) → isLate T t left i ≡ false → 0 < links left i → t + links left i ≤ due T i
   not-late-then i e w =
-      ltb-false (getD (T .due) i 0) (t + getD left i 0)
-      (not-both (ltb 0 (getD left i 0)) (ltb (getD (T .due) i 0) (t + getD left i 0)) (sym (late-test i) ∙ e) (lt-ltb 0 (getD left i 0) w))
+      let in-time = not-both (way i) (missed i) (sym (late-test i) ∙ e) (lt-ltb 0 (links left i) w) in
+      ltb-false (due T i) (t + links left i) in-time
 
   -- The same two, the other way round.
-  pub then-late : (i : ℕ) → 0 < getD left i 0 → getD (T .due) i 0 < t + getD left i 0 → isLate T t left i ≡ true
-  then-late i w l = late-test i ∙ rw (lt-ltb 0 (getD left i 0) w, lt-ltb (getD (T .due) i 0) (t + getD left i 0) l)
+  pub then-late : (i : ℕ) → 0 < links left i → due T i < t + links left i → isLate T t left i ≡ true
+  then-late i w l = late-test i ∙ rw (lt-ltb 0 (links left i) w, lt-ltb (due T i) (t + links left i) l)
 
-  pub then-not-late : (i : ℕ) → (0 < getD left i 0 → t + getD left i 0 ≤ getD (T .due) i 0) → isLate T t left i ≡ false
+  pub then-not-late : (i : ℕ) → (0 < links left i → t + links left i ≤ due T i) → isLate T t left i ≡ false
   then-not-late i h = go (isLate T t left i) refl
     where
       go : (b : Bool) → isLate T t left i ≡ b → isLate T t left i ≡ false
       go true e = absurd (omega (arith, late-then i e, h (late-then i e .0)))
       go false e = e
 
-  late-from-lowest : (m i r : ℕ) → lateFrom T t left m i ≡ suc r → (i ≤ r) × (r < i + m) × (isLate T t left r ≡ true) × ((j : ℕ) → i ≤ j → j < r → isLate T t left j ≡ false)
+  -- row r is the first that is late of the m rows from row i on
+  record FirstLate (m i r : ℕ) : Type 0 where
+    from : i ≤ r
+    within : r < i + m
+    late : isLate T t left r ≡ true
+    before : (j : ℕ) → i ≤ j → j < r → isLate T t left j ≡ false
+
+  late-from-lowest : (m i r : ℕ) → lateFrom T t left m i ≡ suc r → FirstLate m i r
   unfolding lateFrom
   late-from-lowest zero i r e = absurd (omega arith)
   late-from-lowest (suc m) i r e = go (isLate T t left i) refl e (late-from-lowest m (suc i) r)
     where
       go : (b : Bool) → isLate T t left i ≡ b → cond b (suc i) (lateFrom T t left m (suc i)) ≡ suc r
-          → (lateFrom T t left m (suc i) ≡ suc r → (suc i ≤ r) × (r < suc i + m) × (isLate T t left r ≡ true) × ((j : ℕ) → suc i ≤ j → j < r → isLate T t left j ≡ false))
-          → (i ≤ r) × (r < i + suc m) × (isLate T t left r ≡ true) × ((j : ℕ) → i ≤ j → j < r → isLate T t left j ≡ false)
+          → (lateFrom T t left m (suc i) ≡ suc r → FirstLate m (suc i) r) → FirstLate (suc m) i r
       go true f h more =
           let s : i ≡ r = omega arith in
-          (omega arith, omega arith, ap (isLate T t left) (sym s) ∙ f, λ j k l. absurd (omega arith))
-      go false f h more = (omega (arith, more h), omega (arith, more h), more h .2, λ j k l. before j k l (decLt i j))
+          record {
+            from = omega arith;
+            within = omega arith;
+            late = ap (isLate T t left) (sym s) ∙ f;
+            before = λ j k l. absurd (omega arith);
+          }
+      go false f h more =
+          record {
+            from = omega (arith, more h .from);
+            within = omega (arith, more h .within);
+            late = more h .late;
+            before = λ j k l. at-or-after j k l (decLt i j);
+          }
         where
-          before : (j : ℕ) → i ≤ j → j < r → Dec (i < j) → isLate T t left j ≡ false
-          before j k l (yes d) = more h .3 j d l
-          before j k l (no d) = let s : j ≡ i = omega arith in ap (isLate T t left) s ∙ f
+          at-or-after : (j : ℕ) → i ≤ j → j < r → Dec (i < j) → isLate T t left j ≡ false
+          at-or-after j k l (yes d) = more h .before j d l
+          at-or-after j k l (no d) = let s : j ≡ i = omega arith in ap (isLate T t left) s ∙ f
 
-  late-from-none : (m i : ℕ) → lateFrom T t left m i ≡ 0 → (j : ℕ) → i ≤ j → j < i + m → isLate T t left j ≡ false
+  -- none of the m rows from row i on is late
+  abbrev NoneLate : (m i : ℕ) → Type 0
+  NoneLate m i = (j : ℕ) → i ≤ j → j < i + m → isLate T t left j ≡ false
+
+  late-from-none : (m i : ℕ) → lateFrom T t left m i ≡ 0 → NoneLate m i
   unfolding lateFrom
   late-from-none zero i e j k l = absurd (omega arith)
   late-from-none (suc m) i e j k l = go (isLate T t left i) refl e (late-from-none m (suc i)) (decLt i j)
     where
       go : (b : Bool) → isLate T t left i ≡ b → cond b (suc i) (lateFrom T t left m (suc i)) ≡ 0
-          → (lateFrom T t left m (suc i) ≡ 0 → (j : ℕ) → suc i ≤ j → j < suc i + m → isLate T t left j ≡ false) → Dec (i < j) → isLate T t left j ≡ false
+          → (lateFrom T t left m (suc i) ≡ 0 → NoneLate m (suc i)) → Dec (i < j) → isLate T t left j ≡ false
       go true f h more d = absurd (omega arith)
       go false f h more (yes d) = more h j d (omega arith)
       go false f h more (no d) = let s : j ≡ i = omega arith in ap (isLate T t left) s ∙ f
@@ -86,7 +127,7 @@ module _ (T : Traffic) (t : ℕ) (left : List ℕ) where
   unfolding lateRow
   late-lowest i e =
       let h = late-from-lowest (length left) 0 i e in
-      record { inside = omega arith; late = h .2; before = λ j l. h .3 j (omega arith) l }
+      record { inside = omega (arith, h .within); late = h .late; before = λ j l. h .before j (omega arith) l }
 
   -- No row is named late just where no row is late.
   pub late-none : lateRow T t left ≡ 0 → (i : ℕ) → i < length left → isLate T t left i ≡ false
@@ -106,38 +147,52 @@ module _ (T : Traffic) (t : ℕ) (left : List ℕ) where
 
 -- Row j is under way and stands at node p.
 pub record Stands (T : Traffic) (left : List ℕ) (p j : ℕ) : Type 0 where
-  pub under-way : 0 < getD left j 0
+  pub under-way : 0 < links left j
   pub here : place T left j ≡ p
 
 module _ (T : Traffic) (t : ℕ) (left : List ℕ) (p : ℕ) where
-  -- the test that a row must pass to be chosen over those before it: it stands there, and it beats the best so far, if there is one
-  stands-and : (x : Bool) (i : ℕ) → ltb 0 (getD left i 0) && (eqb (place T left i) p && x) ≡ true → Stands T left p i × (x ≡ true)
-  stands-and x i e =
-      let h = both-hold (ltb 0 (getD left i 0)) (eqb (place T left i) p && x) e in
-      let g = both-hold (eqb (place T left i) p) x (h .1) in
-      (record { under-way = ltb-true 0 (getD left i 0) (h .0); here = eqb-true (place T left i) p (g .0) }, g .1)
+  -- row i has no more slack than row j, or less, or is found to have less
+  abbrev NoMore : (i j : ℕ) → Type 0
+  NoMore i j = due T i + links left j ≤ due T j + links left i
 
-  not-stands-and : (x : Bool) (i : ℕ) → ltb 0 (getD left i 0) && (eqb (place T left i) p && x) ≡ false → Stands T left p i → x ≡ false
-  not-stands-and x i e s =
-      not-both (eqb (place T left i) p) x
-      (not-both (ltb 0 (getD left i 0)) (eqb (place T left i) p && x) e (lt-ltb 0 (getD left i 0) (s .under-way)))
-      (eq-eqb (place T left i) p (s .here))
+  abbrev Less : (i j : ℕ) → Type 0
+  Less i j = due T i + links left j < due T j + links left i
 
-  better-than-none : (i : ℕ) → better T t left p 0 i ≡ ltb 0 (getD left i 0) && (eqb (place T left i) p && true)
+  abbrev less : (i j : ℕ) → Bool
+  less i j = ltb (due T i + links left j) (due T j + links left i)
+
+  -- the test that a row must pass to be chosen: it stands there, and it beats the best so far, if there is one
+  abbrev stands-and : (i : ℕ) → Bool → Bool
+  stands-and i x = ltb 0 (links left i) && (eqb (place T left i) p && x)
+
+  it-stands : (x : Bool) (i : ℕ) → stands-and i x ≡ true → Stands T left p i × (x ≡ true)
+  it-stands x i e =
+      let (w, r) = both-hold (ltb 0 (links left i)) (eqb (place T left i) p && x) e in
+      let (h, b) = both-hold (eqb (place T left i) p) x r in
+      (record { under-way = ltb-true 0 (links left i) w; here = eqb-true (place T left i) p h }, b)
+
+  it-does-not-beat : (x : Bool) (i : ℕ) → stands-and i x ≡ false → Stands T left p i → x ≡ false
+  it-does-not-beat x i e s =
+      let w = lt-ltb 0 (links left i) (s .under-way) in
+      let h = eq-eqb (place T left i) p (s .here) in
+      not-both (eqb (place T left i) p) x (not-both (ltb 0 (links left i)) (eqb (place T left i) p && x) e w) h
+
+  better-than-none : (i : ℕ) → better T t left p 0 i ≡ stands-and i true
   unfolding better underWay
   better-than-none i = refl
 
-  better-than : (b i : ℕ) → better T t left p (suc b) i
-      ≡ ltb 0 (getD left i 0) && (eqb (place T left i) p && ltb (getD (T .due) i 0 + getD left b 0) (getD (T .due) b 0 + getD left i 0))
+  better-than : (b i : ℕ) → better T t left p (suc b) i ≡ stands-and i (less i b)
   unfolding better underWay slack
-  better-than b i = rw (ne-eqb (suc b) 0 (omega arith), slack-compared (getD (T .due) i 0) (getD left i 0) (getD (T .due) b 0) (getD left b 0) t)
+  better-than b i =
+      rw (ne-eqb (suc b) 0 (omega arith), slack-compared (due T i) (links left i) (due T b) (links left b) t)
 
-  -- Row i is the choice among the first k: it stands at p, has the least slack of those that do, and is the lowest of those with as little.
+  -- Row i is the choice among the first k: it stands at p, has the least slack of those that do,
+  -- and is the lowest of those with as little.
   pub record Picked (k i : ℕ) : Type 0 where
     pub inside : i < k
     pub stands : Stands T left p i
-    pub least : (j : ℕ) → j < k → Stands T left p j → getD (T .due) i 0 + getD left j 0 ≤ getD (T .due) j 0 + getD left i 0
-    pub lowest : (j : ℕ) → j < i → Stands T left p j → getD (T .due) i 0 + getD left j 0 < getD (T .due) j 0 + getD left i 0
+    pub least : (j : ℕ) → j < k → Stands T left p j → NoMore i j
+    pub lowest : (j : ℕ) → j < i → Stands T left p j → Less i j
 
   -- no row of the first k is under way at p
   Empty : ℕ → Type 0
@@ -148,64 +203,58 @@ module _ (T : Traffic) (t : ℕ) (left : List ℕ) (p : ℕ) where
   Chosen k zero = Empty k
   Chosen k (suc i) = Picked k i
 
+  -- what holds of those before row k that stand there, and of row k if it does, holds of the first k + 1
+  up-to : (P : ℕ → Type 0) (k : ℕ) → ((j : ℕ) → j < k → Stands T left p j → P j) → (Stands T left p k → P k)
+      → (j : ℕ) → j < suc k → Stands T left p j → P j
+  up-to P k before here j l s = go (decLt j k)
+    where
+      go : Dec (j < k) → P j
+      go (yes d) = before j d s
+      go (no d) = let e : j ≡ k = omega arith in rw e (here (rw e at s))
+
   first : (k : ℕ) → Empty k → Stands T left p k → Picked (suc k) k
   unfolding Empty
   first k none s =
       record {
         inside = omega arith;
         stands = s;
-        least = λ j l r. at-or-before j l r (decLt j k);
+        least = up-to (NoMore k) k (λ j l r. absurd (none j l r)) (λ r. omega arith);
         lowest = λ j l r. absurd (none j l r);
       }
-    where
-      at-or-before : (j : ℕ) → j < suc k → Stands T left p j → Dec (j < k) → getD (T .due) k 0 + getD left j 0 ≤ getD (T .due) j 0 + getD left k 0
-      at-or-before j l r (yes d) = absurd (none j d r)
-      at-or-before j l r (no d) = let e : j ≡ k = omega arith in rw e (omega arith)
 
-  over : (k b : ℕ) → Picked k b → Stands T left p k → getD (T .due) k 0 + getD left b 0 < getD (T .due) b 0 + getD left k 0 → Picked (suc k) k
-  over k b best s less =
+  over : (k b : ℕ) → Picked k b → Stands T left p k → Less k b → Picked (suc k) k
+  over k b best s beats =
       record {
         inside = omega arith;
         stands = s;
-        least = λ j l r. at-or-before j l r (decLt j k);
+        least = up-to (NoMore k) k (λ j l r. omega (arith, best .least j l r)) (λ r. omega arith);
         lowest = λ j l r. omega (arith, best .least j l r);
       }
-    where
-      at-or-before : (j : ℕ) → j < suc k → Stands T left p j → Dec (j < k) → getD (T .due) k 0 + getD left j 0 ≤ getD (T .due) j 0 + getD left k 0
-      at-or-before j l r (yes d) = omega (arith, best .least j d r)
-      at-or-before j l r (no d) = let e : j ≡ k = omega arith in rw e (omega arith)
 
-  keeps : (k b : ℕ) → Picked k b → (Stands T left p k → getD (T .due) b 0 + getD left k 0 ≤ getD (T .due) k 0 + getD left b 0) → Picked (suc k) b
+  keeps : (k b : ℕ) → Picked k b → (Stands T left p k → NoMore b k) → Picked (suc k) b
   keeps k b best no-less =
       record {
-        inside = omega arith;
+        inside = omega (arith, best .inside);
         stands = best .stands;
-        least = λ j l r. at-or-before j l r (decLt j k);
-        lowest = λ j l r. best .lowest j l r;
+        least = up-to (NoMore b) k (best .least) no-less;
+        lowest = best .lowest;
       }
-    where
-      at-or-before : (j : ℕ) → j < suc k → Stands T left p j → Dec (j < k) → getD (T .due) b 0 + getD left j 0 ≤ getD (T .due) j 0 + getD left b 0
-      at-or-before j l r (yes d) = best .least j d r
-      at-or-before j l r (no d) = let e : j ≡ k = omega arith in rw e (no-less (rw e at r))
 
-  none-yet : (k : ℕ) → Empty k → (Stands T left p k → ⊥) → Empty (suc k)
-  unfolding Empty
-  none-yet k none not-here j l r = at-or-before (decLt j k)
-    where
-      at-or-before : Dec (j < k) → ⊥
-      at-or-before (yes d) = none j d r
-      at-or-before (no d) = let e : j ≡ k = omega arith in not-here (rw e at r)
-
-  next : (k best : ℕ) → Chosen k best → (x : Bool) → better T t left p best k ≡ x → Chosen (suc k) (cond x (suc k) best)
-  unfolding Chosen
-  next k zero none true e = first k none (stands-and true k (sym (better-than-none k) ∙ e) .0)
-  next k zero none false e = none-yet k none (λ s. differ (sym (not-stands-and true k (sym (better-than-none k) ∙ e) s)))
+  next : (k best : ℕ) → Chosen k best → (x : Bool) → better T t left p best k ≡ x
+      → Chosen (suc k) (cond x (suc k) best)
+  unfolding Chosen Empty
+  next k zero none true e = first k none (it-stands true k (sym (better-than-none k) ∙ e) .0)
+  next k zero none false e =
+      let not-here : Stands T left p k → ⊥
+      = λ s. differ (sym (it-does-not-beat true k (sym (better-than-none k) ∙ e) s)) in
+      up-to (λ j. ⊥) k none not-here
   next k (suc b) best true e =
-      let h = stands-and (ltb (getD (T .due) k 0 + getD left b 0) (getD (T .due) b 0 + getD left k 0)) k (sym (better-than b k) ∙ e) in
-      over k b best (h .0) (ltb-true (getD (T .due) k 0 + getD left b 0) (getD (T .due) b 0 + getD left k 0) (h .1))
+      let (s, l) = it-stands (less k b) k (sym (better-than b k) ∙ e) in
+      over k b best s (ltb-true (due T k + links left b) (due T b + links left k) l)
   next k (suc b) best false e =
-      keeps k b best (λ s. ltb-false (getD (T .due) k 0 + getD left b 0) (getD (T .due) b 0 + getD left k 0)
-      (not-stands-and (ltb (getD (T .due) k 0 + getD left b 0) (getD (T .due) b 0 + getD left k 0)) k (sym (better-than b k) ∙ e) s))
+      keeps k b best (λ s.
+      ltb-false (due T k + links left b) (due T b + links left k)
+      (it-does-not-beat (less k b) k (sym (better-than b k) ∙ e) s))
 
   chosen : (k : ℕ) → Chosen k (pick T t left p k)
   unfolding pick Chosen Empty
@@ -225,43 +274,51 @@ module _ (T : Traffic) (t : ℕ) (left : List ℕ) (p : ℕ) where
 -- ---- where a row stands, and what a slot does
 
 -- A row stands at a node of the ring.
-pub place-inside : (T : Traffic) (left : List ℕ) → OnRing T left → (i : ℕ) → i < length left → place T left i < T .nodes
+pub place-inside : (T : Traffic) (left : List ℕ) → OnRing T left
+    → (i : ℕ) → i < length left → place T left i < T .nodes
 unfolding place standing
-place-inside T left ring i l = on-ring (T .nodes) (getD left i 0) (getD (T .dst) i 0) (ring .dst-inside i l)
+place-inside T left ring i l = on-ring (T .nodes) (links left i) (getD (T .dst) i 0) (ring .dst-inside i l)
 
 module _ (T : Traffic) (slot left : List ℕ) where
+  -- what the link at which row i stands carries
+  abbrev sent : ℕ → ℕ
+  sent i = getD slot (place T left i) 0
+
+  abbrev after : ℕ → ℕ
+  after i = links left i - cond (eqb (sent i) (suc i)) 1 0
+
   pub moved-length : length (moved T slot left) ≡ length left
   unfolding moved
-  moved-length = length-build (length left) (λ i. getD left i 0 - cond (eqb (getD slot (place T left i) 0) (suc i)) 1 0)
+  moved-length = length-build (length left) after
 
   -- A row has one link less to go where the link at which it stands carries it, and as many as before elsewhere.
-  pub moved-entry : (i : ℕ) → i < length left → getD (moved T slot left) i 0 ≡ getD left i 0 - cond (eqb (getD slot (place T left i) 0) (suc i)) 1 0
+  pub moved-entry : (i : ℕ) → i < length left → links (moved T slot left) i ≡ after i
   unfolding moved
-  moved-entry i l = getD-build (length left) (λ i. getD left i 0 - cond (eqb (getD slot (place T left i) 0) (suc i)) 1 0) i 0 l
+  moved-entry i l = getD-build (length left) after i 0 l
 
-  pub moved-sent : (i : ℕ) → i < length left → getD slot (place T left i) 0 ≡ suc i → getD (moved T slot left) i 0 ≡ getD left i 0 - 1
-  moved-sent i l e = moved-entry i l ∙ rw (eq-eqb (getD slot (place T left i) 0) (suc i) e)
+  pub moved-sent : (i : ℕ) → i < length left → sent i ≡ suc i → links (moved T slot left) i ≡ links left i - 1
+  moved-sent i l e = moved-entry i l ∙ rw (eq-eqb (sent i) (suc i) e)
 
-  pub moved-waits : (i : ℕ) → i < length left → (getD slot (place T left i) 0 ≡ suc i → ⊥) → getD (moved T slot left) i 0 ≡ getD left i 0
+  pub moved-waits : (i : ℕ) → i < length left → (sent i ≡ suc i → ⊥) → links (moved T slot left) i ≡ links left i
   moved-waits i l e =
-      let z : getD left i 0 - 0 ≡ getD left i 0 = omega arith in
-      moved-entry i l ∙ rw (ne-eqb (getD slot (place T left i) 0) (suc i) e, z)
+      let z : links left i - 0 ≡ links left i = omega arith in
+      moved-entry i l ∙ rw (ne-eqb (sent i) (suc i) e, z)
 
-  pub moved-less : (i : ℕ) → i < length left → getD (moved T slot left) i 0 ≤ getD left i 0
+  pub moved-less : (i : ℕ) → i < length left → links (moved T slot left) i ≤ links left i
   moved-less i l = rw (moved-entry i l) (omega arith)
 
-  pub moved-by-one : (i : ℕ) → i < length left → getD left i 0 ≤ suc (getD (moved T slot left) i 0)
-  moved-by-one i l = rw (moved-entry i l) (go (eqb (getD slot (place T left i) 0) (suc i)))
+  pub moved-by-one : (i : ℕ) → i < length left → links left i ≤ suc (links (moved T slot left) i)
+  moved-by-one i l = rw (moved-entry i l) (go (eqb (sent i) (suc i)))
     where
-      go : (b : Bool) → getD left i 0 ≤ suc (getD left i 0 - cond b 1 0)
+      go : (b : Bool) → links left i ≤ suc (links left i - cond b 1 0)
       go true = omega arith
       go false = omega arith
 
   -- A row that has less to go than before was named on the link where it stood.
-  pub moved-named : (i : ℕ) → i < length left → getD (moved T slot left) i 0 < getD left i 0 → getD slot (place T left i) 0 ≡ suc i
-  moved-named i l less = go (ℕ-discrete (getD slot (place T left i) 0) (suc i))
+  pub moved-named : (i : ℕ) → i < length left → links (moved T slot left) i < links left i → sent i ≡ suc i
+  moved-named i l less = go (ℕ-discrete (sent i) (suc i))
     where
-      go : Dec (getD slot (place T left i) 0 ≡ suc i) → getD slot (place T left i) 0 ≡ suc i
+      go : Dec (sent i ≡ suc i) → sent i ≡ suc i
       go (yes e) = e
       go (no e) = absurd (omega (arith, moved-waits i l e))
 
@@ -273,7 +330,9 @@ module _ (T : Traffic) (slot left : List ℕ) where
         dst-each = ring .dst-each ∙ sym moved-length;
         due-each = ring .due-each ∙ sym moved-length;
         dst-inside = λ i l. ring .dst-inside i (rw moved-length at l);
-        left-inside = λ i l. omega (arith, moved-less i (rw moved-length at l), ring .left-inside i (rw moved-length at l));
+        left-inside = λ i l.
+            let h = rw moved-length at l in
+            omega (arith, moved-less i h, ring .left-inside i h);
       }
 
 -- A run: each state is the one before it, changed by a slot, whoever named the slots.
@@ -288,13 +347,15 @@ module _ (T : Traffic) (state slot : ℕ → List ℕ) (next : (t : ℕ) → sta
   run-on-ring ring (suc t) = rw (next t) (moved-on-ring T (slot t) (state t) (run-on-ring ring t))
 
   -- No row's links to go ever grow.
-  pub run-less : (i : ℕ) → i < length (state 0) → (t s : ℕ) → t ≤ s → getD (state s) i 0 ≤ getD (state t) i 0
+  pub run-less : (i : ℕ) → i < length (state 0) → (t s : ℕ) → t ≤ s → links (state s) i ≤ links (state t) i
   run-less i known t zero l = let e : t ≡ 0 = omega arith in rw e (omega arith)
   run-less i known t (suc s) l = go (decLt s t) (run-less i known t s)
     where
-      go : Dec (s < t) → (t ≤ s → getD (state s) i 0 ≤ getD (state t) i 0) → getD (state (suc s)) i 0 ≤ getD (state t) i 0
+      go : Dec (s < t) → (t ≤ s → links (state s) i ≤ links (state t) i) → links (state (suc s)) i ≤ links (state t) i
       go (yes d) more = let e : t ≡ suc s = omega arith in rw e (omega arith)
-      go (no d) more = rw (next s) (omega (arith, more (omega arith), moved-less T (slot s) (state s) i (omega (arith, run-length s))))
+      go (no d) more =
+          let fewer = moved-less T (slot s) (state s) i (omega (arith, run-length s)) in
+          rw (next s) (omega (arith, more (omega arith), fewer))
 
 -- The rule's own run.
 module _ (T : Traffic) (start : List ℕ) where
@@ -306,23 +367,37 @@ module _ (T : Traffic) (start : List ℕ) where
   unfolding stateAt
   state-on-ring = run-on-ring T (stateAt T start) (λ t. slotOf T t (stateAt T start t)) (λ t. refl)
 
-  pub state-less : (i : ℕ) → i < length start → (t s : ℕ) → t ≤ s → getD (stateAt T start s) i 0 ≤ getD (stateAt T start t) i 0
+  pub state-less : (i : ℕ) → i < length start → (t s : ℕ) → t ≤ s
+      → links (stateAt T start s) i ≤ links (stateAt T start t) i
   unfolding stateAt
   state-less = run-less T (stateAt T start) (λ t. slotOf T t (stateAt T start t)) (λ t. refl)
 
 -- The rule's slot has an entry for each link, the row that the node there sends.
-pub slot-length : (T : Traffic) (t : ℕ) (left : List ℕ) → length (slotOf T t left) ≡ T .nodes
-unfolding slotOf
-slot-length T t left = length-build (T .nodes) (λ p. pick T t left p (length left))
+module _ (T : Traffic) (t : ℕ) (left : List ℕ) where
+  pub slot-length : length (slotOf T t left) ≡ T .nodes
+  unfolding slotOf
+  slot-length = length-build (T .nodes) (λ p. pick T t left p (length left))
 
-pub slot-entry : (T : Traffic) (t : ℕ) (left : List ℕ) (p : ℕ) → p < T .nodes → getD (slotOf T t left) p 0 ≡ pick T t left p (length left)
-unfolding slotOf
-slot-entry T t left p l = getD-build (T .nodes) (λ p. pick T t left p (length left)) p 0 l
+  pub slot-entry : (p : ℕ) → p < T .nodes → getD (slotOf T t left) p 0 ≡ pick T t left p (length left)
+  unfolding slotOf
+  slot-entry p l = getD-build (T .nodes) (λ p. pick T t left p (length left)) p 0 l
+
+  -- A row that it names on a link is the one that the node there is to send.
+  pub slot-names : (p i : ℕ) → p < T .nodes → getD (slotOf T t left) p 0 ≡ suc i → Picked T t left p (length left) i
+  slot-names p i l e = pick-least T t left p (length left) i (sym (slot-entry p l) ∙ e)
+
+-- A plan has an entry for each link in each slot.
+pub plan-length : (T : Traffic) (start : List ℕ) (t : ℕ) → length (planOf T start t) ≡ t * T .nodes
+unfolding planOf
+plan-length T start zero = omega arith
+plan-length T start (suc t) =
+    let left = stateAt T start t in
+    length-append (planOf T start t) (slotOf T t left) ∙ omega (arith, plan-length T start t, slot-length T t left)
 
 -- ---- all delivered
 
 -- Where nothing is under way, no row has links to go.
-pub none-under-way : (left : List ℕ) → anyUnderWay left ≡ false → (i : ℕ) → getD left i 0 ≡ 0
+pub none-under-way : (left : List ℕ) → anyUnderWay left ≡ false → (i : ℕ) → links left i ≡ 0
 unfolding anyUnderWay
 none-under-way [] e i = refl
 none-under-way (l ∷ ls) e zero =
@@ -331,12 +406,13 @@ none-under-way (l ∷ ls) e zero =
 none-under-way (l ∷ ls) e (suc i) = none-under-way ls (neither (ltb 0 l) (anyUnderWay ls) e .1) i
 
 -- Where something is under way, some row is.
-pub some-under-way : (left : List ℕ) → anyUnderWay left ≡ true → (i : ℕ) × (i < length left) × (0 < getD left i 0)
+pub some-under-way : (left : List ℕ) → anyUnderWay left ≡ true → (i : ℕ) × (i < length left) × (0 < links left i)
 unfolding anyUnderWay
 some-under-way [] e = absurd (differ e)
 some-under-way (l ∷ ls) e = go (ltb 0 l) refl e (some-under-way ls)
   where
-    go : (b : Bool) → ltb 0 l ≡ b → b || anyUnderWay ls ≡ true → (anyUnderWay ls ≡ true → (i : ℕ) × (i < length ls) × (0 < getD ls i 0))
-        → (i : ℕ) × (i < length (l ∷ ls)) × (0 < getD (l ∷ ls) i 0)
+    go : (b : Bool) → ltb 0 l ≡ b → b || anyUnderWay ls ≡ true
+        → (anyUnderWay ls ≡ true → (i : ℕ) × (i < length ls) × (0 < links ls i))
+        → (i : ℕ) × (i < length (l ∷ ls)) × (0 < links (l ∷ ls) i)
     go true f h more = (0, omega arith, ltb-true 0 l f)
     go false f h more = (suc (more h .0), omega (arith, more h .1), more h .2)

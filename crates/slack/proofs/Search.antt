@@ -14,7 +14,8 @@ pub any-here : (left : List ℕ) (i : ℕ) → i < length left → 0 < getD left
 unfolding anyUnderWay
 any-here left i h l = rw (drop-cons left i 0 h, lt-ltb 0 (getD left i 0) l)
 
-pub any-next : (left : List ℕ) (i : ℕ) → i < length left → getD left i 0 ≤ 0 → anyUnderWay (drop i left) ≡ anyUnderWay (drop (i + 1) left)
+pub any-next : (left : List ℕ) (i : ℕ) → i < length left → getD left i 0 ≤ 0
+    → anyUnderWay (drop i left) ≡ anyUnderWay (drop (i + 1) left)
 unfolding anyUnderWay
 any-next left i h l = rw (drop-cons left i 0 h, le-ltb 0 (getD left i 0) l, add-one)
 

@@ -1,4 +1,5 @@
--- Slack is a signed number. Here each of its tests is turned into a test of natural numbers, and its range is bounded, so that no later proof meets a sign.
+-- Slack is a signed number. Here each of its tests is turned into a test of natural numbers, and its range is bounded,
+-- so that no later proof meets a sign.
 --     slack-below-zero      slack is below 0 where the due slot lies before t + left
 --     slack-compared        which of two slacks is less, at one instant
 --     slack-range           slack fits 32 signed bits where its parts fit 16 bits
@@ -42,17 +43,20 @@ less-of-difference a b c = go (ltb a b) refl (ltb a (b + c)) refl
     go true e y f =
         let l : a < b = ltb-true a b e in
         let s : b - suc a + c ≡ b + c - suc a = omega arith in
-        ap (λ z. z -ℤ pos c) (below a b l) ∙ less-of-neg (b - suc a) c ∙ ap negsuc s ∙ sym (below a (b + c) (omega arith))
+        ap (λ z. z -ℤ pos c) (below a b l) ∙ less-of-neg (b - suc a) c ∙ ap negsuc s
+        ∙ sym (below a (b + c) (omega arith))
     go false e true f =
         let l : b ≤ a = ltb-false a b e in
         let m : a < b + c = ltb-true a (b + c) f in
         let s : c - suc (a - b) ≡ b + c - suc a = omega arith in
-        ap (λ z. z -ℤ pos c) (above a b l) ∙ less-of-pos (a - b) c ∙ below (a - b) c (omega arith) ∙ ap negsuc s ∙ sym (below a (b + c) m)
+        ap (λ z. z -ℤ pos c) (above a b l) ∙ less-of-pos (a - b) c ∙ below (a - b) c (omega arith) ∙ ap negsuc s
+        ∙ sym (below a (b + c) m)
     go false e false f =
         let l : b ≤ a = ltb-false a b e in
         let m : b + c ≤ a = ltb-false a (b + c) f in
         let s : a - b - c ≡ a - (b + c) = omega arith in
-        ap (λ z. z -ℤ pos c) (above a b l) ∙ less-of-pos (a - b) c ∙ above (a - b) c (omega arith) ∙ ap pos s ∙ sym (above a (b + c) m)
+        ap (λ z. z -ℤ pos c) (above a b l) ∙ less-of-pos (a - b) c ∙ above (a - b) c (omega arith) ∙ ap pos s
+        ∙ sym (above a (b + c) m)
 
 -- Slack is the due slot less the sum of the instant and the links to go.
 pub slack-is : (due t left : ℕ) → slackOf due t left ≡ subℕ due (t + left)
@@ -69,18 +73,24 @@ difference-below-zero a b = go (ltb a b) refl
 pub differences-compared : (a b c d : ℕ) → ltZ (subℕ a b) (subℕ c d) ≡ ltb (a + d) (c + b)
 differences-compared a b c d = go (ltb a b) refl (ltb c d) refl (ltb (a + d) (c + b)) refl
   where
+    crosswise : Bool
+    crosswise = ltb (a + d) (c + b)
+
     same : (x y : ℤ) → subℕ a b ≡ x → subℕ c d ≡ y → ltZ (subℕ a b) (subℕ c d) ≡ ltZ x y
     same x y e f = rw (e, f)
 
-    test : (m n : ℕ) (z : Bool) → ltb (a + d) (c + b) ≡ z → (a + d < c + b → m < n) → (c + b ≤ a + d → n ≤ m) → ltb m n ≡ ltb (a + d) (c + b)
+    test : (m n : ℕ) (z : Bool) → crosswise ≡ z → (a + d < c + b → m < n) → (c + b ≤ a + d → n ≤ m)
+        → ltb m n ≡ crosswise
     test m n true e f g = lt-ltb m n (f (ltb-true (a + d) (c + b) e)) ∙ sym e
     test m n false e f g = le-ltb m n (g (ltb-false (a + d) (c + b) e)) ∙ sym e
 
-    go : (x : Bool) → ltb a b ≡ x → (y : Bool) → ltb c d ≡ y → (z : Bool) → ltb (a + d) (c + b) ≡ z → ltZ (subℕ a b) (subℕ c d) ≡ ltb (a + d) (c + b)
+    go : (x : Bool) → ltb a b ≡ x → (y : Bool) → ltb c d ≡ y → (z : Bool) → crosswise ≡ z
+        → ltZ (subℕ a b) (subℕ c d) ≡ crosswise
     go true e true f z h =
         let l : a < b = ltb-true a b e in
         let m : c < d = ltb-true c d f in
-        same (negsuc (b - suc a)) (negsuc (d - suc c)) (below a b l) (below c d m) ∙ test (d - suc c) (b - suc a) z h (λ u. omega arith) (λ u. omega arith)
+        same (negsuc (b - suc a)) (negsuc (d - suc c)) (below a b l) (below c d m)
+        ∙ test (d - suc c) (b - suc a) z h (λ u. omega arith) (λ u. omega arith)
     go true e false f z h =
         let l : a < b = ltb-true a b e in
         let m : d ≤ c = ltb-false c d f in
@@ -92,7 +102,8 @@ differences-compared a b c d = go (ltb a b) refl (ltb c d) refl (ltb (a + d) (c 
     go false e false f z h =
         let l : b ≤ a = ltb-false a b e in
         let m : d ≤ c = ltb-false c d f in
-        same (pos (a - b)) (pos (c - d)) (above a b l) (above c d m) ∙ test (a - b) (c - d) z h (λ u. omega arith) (λ u. omega arith)
+        same (pos (a - b)) (pos (c - d)) (above a b l) (above c d m)
+        ∙ test (a - b) (c - d) z h (λ u. omega arith) (λ u. omega arith)
 
 -- Slack is below zero just where the due slot lies before t + left.
 pub slack-below-zero : (due t left : ℕ) → ltZ (slackOf due t left) (pos 0) ≡ ltb due (t + left)
@@ -121,4 +132,5 @@ difference-range a b m k l = go (ltb a b) refl
 
 -- The code computes slack in an i32, of parts that are u16: it fits.
 pub slack-range : (due t left : ℕ) → due < 2 ^ 16 → t < 2 ^ 16 → left < 2 ^ 16 → mag (slackOf due t left) < 2 ^ 31
-slack-range due t left a b c = rw (slack-is due t left) (difference-range due (t + left) (2 ^ 31) (omega arith) (omega arith))
+slack-range due t left a b c =
+    rw (slack-is due t left) (difference-range due (t + left) (2 ^ 31) (omega arith) (omega arith))

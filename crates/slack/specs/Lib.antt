@@ -1,3 +1,2 @@
 pub mod Slack
 pub mod Figure
-pub mod Steps

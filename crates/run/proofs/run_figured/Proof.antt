@@ -1,50 +1,79 @@
--- `run::run_figured` meets its contract: what `walk` left, and the areas cleared behind it or as a whole.
+-- `run::run_figured` meets its contract: what `walk` left over cleared arrivals, and the areas cleared behind it or as
+-- a whole.
 -- Assumes nothing.
-use Prim.Native.Nat.{_*_, _≤_}
+use Prim.Native.Nat.{_*_, _<_, _^_}
 use native.Mathlib.Omega.{arith}
-use lib.ListN.{length}
 use borrow.Author.Needs.{needs}
-use Rattle.run.proofs.Running.{inside, inside-lent, accepted, refused}
+use Rattle.slack.specs.Slack.{traffic}
+use Rattle.run.proofs.Running.{cleared-ready, Over, inside, inside-lent, accepted, refused}
 use Rattle.run.proofs.run_figured.Statement.{statement}
 use Rattle.run.proofs.run_figured.Tie as tie
 
--- The slots that were walked over lie in the plan.
-in-plan : (c : tie.After-walk) → let s = c .before .before .before .before .before .before .before .before .before .before in c .walk .result .slot .0 * s .args .nodes ≤ length (s .args .plan .now)
-in-plan c = inside-lent (c .before .before .before .before .before .before .before .before .before .before .pre .0) (c .walk .ensures) (c .walk .kept .1 .1 .1 .1 .1 .0)
+-- The places where the function begins, and where the arrivals have been cleared, from where the walk has been left.
+abbrev cleared-at : tie.After-walk → tie.After-clear
+cleared-at c = c .before .before .before .before .before .before .before
+
+abbrev begun-at : tie.After-walk → tie.Start
+begun-at c = cleared-at c .before .before .before .before .before .before .before
+
+-- The walk has been left.
+left-off : (c : tie.After-walk) →
+    let a = begun-at c .args in
+    let left = c .walk .last .1 .1 .1 in
+    Over (traffic (a .nodes) (a .dst .now) (a .due .now)) (a .left .now) (a .plan .now) (c .walk .result)
+    (left .0) (left .1 .1 .0) (left .1 .1 .1 .0)
+left-off c =
+    let kept = c .walk .kept .1 .1 .1 .1 .1 in
+    record {
+      lent = _;
+      arrivals₀ = _;
+      figures = _;
+      ready = begun-at c .pre .0;
+      cleared = cleared-at c .clear .ensures;
+      walked = c .walk .ensures;
+      plan-long = kept .0;
+      arrivals-long = kept .1 .0;
+    }
+
+-- The slots that were walked over lie in the plan: where they end is a small number.
+walked-over : (c : tie.After-walk) → c .walk .result .slot .0 * begun-at c .args .nodes < 2 ^ 63
+walked-over c = omega (arith, inside-lent (left-off c), begun-at c .good)
+
+clear-requires : tie.Need-clear-requires
+clear-requires c κs = search needs
 
 walk-requires : tie.Need-walk-requires
-walk-requires c κs = search needs
+walk-requires c κs =
+    let s = c .before .before .before .before .before .before .before .before .before .before .before .before .before in
+    (cleared-ready (s .pre .0) (c .before .before .before .before .before .before .clear .ensures), s .pre .1)
 
 cast-idle : tie.Need-cast-idle
 cast-idle c = search needs
 
 mul-idle : tie.Need-mul-idle
-mul-idle c = omega (arith, in-plan (c .before .before .before .before .before .before .before .before .before .before))
+mul-idle c = omega (arith, walked-over (c .before .before .before .before .before .before .before .before .before .before))
 
 mul-clear : tie.Need-mul-clear
-mul-clear c = omega (arith, in-plan (c .before .before .before .before .before .before .before .before .before .before))
+mul-clear c = omega (arith, walked-over (c .before .before .before .before .before .before .before .before .before .before))
 
 sub-clear : tie.Need-sub-clear
-sub-clear c =
-    let walked = c .before .before .before .before .before .before .before .before .before .before .walk in
-    inside (c .before .before .before .before .before .before .before .before .before .before .before .before .before .before .before .before .before .before .before .before .pre .0) (walked .ensures) (walked .kept .1 .1 .1 .1 .1 .0)
+sub-clear c = inside (left-off (c .before .before .before .before .before .before .before .before .before .before))
 
 part-clear-start : tie.Need-part-clear-start
 part-clear-start c =
-    let walked = c .before .before .before .before .before .before .before .before .before .before .walk in
-    inside (c .before .before .before .before .before .before .before .before .before .before .before .before .before .before .before .before .before .before .before .before .pre .0) (walked .ensures) (walked .kept .1 .1 .1 .1 .1 .0)
+    inside (left-off (c .before .before .before .before .before .before .before .before .before .before))
 
 part-clear-end : tie.Need-part-clear-end
 part-clear-end c = search needs
-
-clear-requires : tie.Need-clear-requires
-clear-requires c κs = search needs
 
 clear-requires-2 : tie.Need-clear-requires-2
 clear-requires-2 c κs = search needs
 
 clear-requires-3 : tie.Need-clear-requires-3
 clear-requires-3 c κs = search needs
+
+clear-requires-4 : tie.Need-clear-requires-4
+clear-requires-4 c κs = search needs
 
 same-length : tie.Need-same-length
 same-length c = search needs
@@ -60,9 +89,8 @@ same-length-4 c = search needs
 
 returns : tie.Need-returns
 returns c =
-    let s = c .before .before .before .before .before .before .before .before .before .before .before .before .before .before .before .before .before .before .before .before .before .before .before .before in
-    let walked = c .before .before .before .before .before .before .before .before .before .before .before .before .before .before .walk in
-    accepted (s .pre .0) (walked .ensures) (walked .kept .1 .1 .1 .1 .1 .0) (s .pre .1) (omega arith) _ (c .before .before .clear .ensures)
+    let cleared = c .before .before in
+    accepted (left-off (cleared .before .before .before .before .before .before .before .before .before .before .before .before)) (omega arith) _ (cleared .clear2 .ensures)
 
 same-length-5 : tie.Need-same-length-5
 same-length-5 c = search needs
@@ -78,15 +106,14 @@ same-length-8 c = search needs
 
 returns-2 : tie.Need-returns-2
 returns-2 c =
-    let s = c .before .before .before .before .before .before .before .before .before .before .before .before .before .before .before .before .before .before .before .before .before .before .before .before .before .before .before in
-    let walked = c .before .before .before .before .before .before .before .before .before .before .before .before .before .before .before .before .before .walk in
-    let long = walked .kept .1 .1 .1 .1 .1 in
-    refused (s .pre .0) (walked .ensures) (long .0) (omega arith) _ _ (c .before .before .before .before .before .before .clear2 .ensures) (c .before .before .clear3 .ensures) (long .1 .0)
+    let plan = c .before .before .before .before .before .before in
+    refused (left-off (plan .before .before .before .before .before .before .before .before .before .before .before)) (omega arith) _ _ (plan .clear3 .ensures) (c .before .before .clear4 .ensures)
 
 pub run-figured-spec : {M : Type 1} → statement M
 run-figured-spec =
     tie.close
     (tie.spec
+    clear-requires
     walk-requires
     cast-idle
     mul-idle
@@ -94,9 +121,9 @@ run-figured-spec =
     sub-clear
     part-clear-start
     part-clear-end
-    clear-requires
     clear-requires-2
     clear-requires-3
+    clear-requires-4
     same-length
     same-length-2
     same-length-3

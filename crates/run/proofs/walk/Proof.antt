@@ -1,54 +1,66 @@
--- `run::walk` meets its contract: the outer loop keeps what holds where an instant begins, the inner one that no row before i is late.
+-- `run::walk` meets its contract: the outer loop keeps what holds where an instant begins, the inner one that no row
+-- before i is late.
 -- Assumes nothing.
-use mathlib.Core.Path.{_≡_, _∙_, sym, refl, ap}
-use mathlib.Core.Bool.{true}
+use mathlib.Core.Path.{_≡_, _∙_, sym, refl}
 use Prim.Native.Nat.{_≤_, _-_}
 use native.Mathlib.Omega.{arith}
+use borrow.Author.Needs.{needs}
 use lib.ListN.{length}
 use Rattle.lists.specs.Lists.{largest}
-use Rattle.slack.specs.Slack.{traffic, isLate, underWay, slack, anyUnderWay, lateRow}
-use Rattle.slack.specs.Figure.{figuresOf}
-use Rattle.slack.proofs.Figures.{same-figures}
-use Rattle.run.proofs.Walking.{Sought, seek, seek-on, found, not-found, Going, begin, over, is-late, before-last, has-room, can-plan, on-ring, again}
+use Rattle.slack.specs.Slack.{traffic, isLate, underWay, slack}
+use Rattle.run.proofs.Walking.{Sought, seek, seek-on, found, not-found}
+use Rattle.run.proofs.Walking.{Going, begin, figures-kept, over, is-late, on-ring}
+use Rattle.run.proofs.Walking.{Planning, before-last, before-end, has-room, can-plan, again}
 use Rattle.run.proofs.walk.Statement.{statement}
 use Rattle.run.proofs.walk.Tie as tie
 
 abbrev Inv-loop : tie.InvT-loop
-Inv-loop nodes dst due left figure plan arrivals t late₀ i₀ late i = (i ≤ length left) × (late ≡ late₀) × Sought (traffic nodes dst due) t left i
+Inv-loop nodes dst due left figure plan arrivals t late₀ i₀ late i =
+    (i ≤ length left) × (late ≡ late₀) × Sought (traffic nodes dst due) t left i
 
 abbrev μ-loop : tie.MeasureT-loop
 μ-loop nodes dst due left figure plan arrivals t late₀ i₀ late i = length left - i
 
 abbrev Inv-instants : tie.InvT-instants
 Inv-instants nodes dst due left₀ figure₀ plan₀ arrivals₀ t₀ late₀ left figure plan arrivals t late =
-    Going (traffic nodes dst due) left₀ plan₀ arrivals₀ t late left plan arrivals × (figure ≡ figuresOf (traffic nodes dst due) left)
+    Going (traffic nodes dst due) left₀ plan₀ arrivals₀ t late left figure plan arrivals
 
 abbrev μ-instants : tie.MeasureT-instants
 μ-instants nodes dst due left₀ figure₀ plan₀ arrivals₀ t₀ late₀ left figure plan arrivals t late = largest due - t
 
+-- All rows were looked at and none is late: the slot is to be planned.
+planning : (c : tie.After-loop Inv-loop μ-loop Inv-instants μ-instants) →
+    let a = c .before .before .before .before .before .before .before .before .before .before .before .args in
+    let o = c .before .before .before .before .before .instants in
+    Planning (traffic (a .nodes) (a .dst .now) (a .due .now)) (a .left .now) (a .plan .now) (a .arrivals .now)
+    (o .t) (o .late) (o .left) (o .figure) (o .plan) (o .arrivals)
+planning c =
+    let o = c .before .before .before .before .before .instants in
+    let l = c .before .loop in
+    record {
+      going = o .inv;
+      busy = sym (c .before .before .before .any-under-way .ensures) ∙ c .before .before .if1 .taken;
+      on-time = not-found _ (o .t) (o .left) (l .i) (omega arith) (l .inv .2);
+    }
+
 instants-holds : tie.Need-instants-holds Inv-loop μ-loop Inv-instants μ-instants
-instants-holds c =
-    let a = c .before .before .before .before .before .args in
-    let T = traffic (a .nodes) (a .dst .now) (a .due .now) in
-    let ready = c .before .before .before .before .before .pre .0 in
-    (begin T (a .left .now) (a .plan .now) (a .arrivals .now) ready, c .before .before .before .before .before .pre .1)
+instants-holds c = let s = c .before .before .before .before .before in begin (s .pre .0) (s .pre .1)
 
 any-under-way-requires : tie.Need-any-under-way-requires Inv-loop μ-loop Inv-instants μ-instants
 any-under-way-requires c κs = tt
 
 loop-holds : tie.Need-loop-holds Inv-loop μ-loop Inv-instants μ-instants
 loop-holds c =
-    let a = c .before .before .before .before .before .before .before .before .before .args in
-    let T = traffic (a .nodes) (a .dst .now) (a .due .now) in
-    let ready = c .before .before .before .before .before .before .before .before .before .pre .0 in
     let o = c .before .before .before .instants in
-    (omega arith, refl, seek T (o .t) (o .left))
+    (omega arith, refl, seek _ (o .t) (o .left))
 
 mul-t16 : tie.Need-mul-t16 Inv-loop μ-loop Inv-instants μ-instants
 mul-t16 c = omega arith
 
 shared-slice-read-t20 : tie.Need-shared-slice-read-t20 Inv-loop μ-loop Inv-instants μ-instants
-shared-slice-read-t20 c = omega (arith, c .before .before .before .before .before .before .before .before .before .before .before .before .pre .0 .ring .due-each, c .before .before .before .before .before .before .instants .inv .0 .left-long)
+shared-slice-read-t20 c =
+    let g = c .before .before .before .before .before .before .instants .inv in
+    omega (arith, g .ready .ring .due-each, g .left-long)
 
 mul-t23 : tie.Need-mul-t23 Inv-loop μ-loop Inv-instants μ-instants
 mul-t23 c = omega arith
@@ -63,7 +75,9 @@ add-late : tie.Need-add-late Inv-loop μ-loop Inv-instants μ-instants
 add-late c = omega arith
 
 cast-late : tie.Need-cast-late Inv-loop μ-loop Inv-instants μ-instants
-cast-late c = omega (arith, c .before .before .before .before .before .before .before .before .before .before .before .before .before .before .before .pre .0 .few, c .before .before .before .before .before .before .before .before .before .instants .inv .0 .left-long)
+cast-late c =
+    let g = c .before .before .before .before .before .before .before .before .before .instants .inv in
+    omega (arith, g .ready .few, g .left-long)
 
 add-i : tie.Need-add-i Inv-loop μ-loop Inv-instants μ-instants
 add-i c = omega arith
@@ -74,158 +88,93 @@ loop-less c = omega arith
 loop-again : tie.Need-loop-again Inv-loop μ-loop Inv-instants μ-instants
 unfolding isLate underWay slack
 loop-again c =
-    let a = c .before .before .before .before .before .before .before .before .before .before .before .before .before .before .before .args in
-    let T = traffic (a .nodes) (a .dst .now) (a .due .now) in
-    let ready = c .before .before .before .before .before .before .before .before .before .before .before .before .before .before .before .pre .0 in
     let o = c .before .before .before .before .before .before .before .before .before .instants in
-    let i = c .before .before .before .before .before .loop .i in
-    (omega arith, c .before .before .before .before .before .loop .inv .1, seek-on T (o .t) (o .left) i (omega arith) (sym (c .before .is-late .ensures) ∙ c .if2 .left) (c .before .before .before .before .before .loop .inv .2))
+    let l = c .before .before .before .before .before .loop in
+    let in-time = sym (c .before .is-late .ensures) ∙ c .if2 .left in
+    (omega arith, l .inv .1, seek-on _ (o .t) (o .left) (l .i) (omega arith) in-time (l .inv .2))
 
 cast-first : tie.Need-cast-first Inv-loop μ-loop Inv-instants μ-instants
-cast-first c = omega (arith, c .before .before .before .before .before .before .before .before .before .before .before .pre .0 .soon, c .before .before .before .before .before .instants .inv .0 .within)
+cast-first c = omega (arith, before-end (planning c))
 
 mul-first : tie.Need-mul-first Inv-loop μ-loop Inv-instants μ-instants
-mul-first c =
-    let a = c .before .before .before .before .before .before .before .before .before .before .before .args in
-    let T = traffic (a .nodes) (a .dst .now) (a .due .now) in
-    let ready = c .before .before .before .before .before .before .before .before .before .before .before .pre .0 in
-    let o = c .before .before .before .before .before .instants in
-    let i = c .before .loop .i in
-    let busy : anyUnderWay (o .left) ≡ true = sym (c .before .before .before .any-under-way .ensures) ∙ c .before .before .if1 .taken in
-    let on-time : lateRow T (o .t) (o .left) ≡ 0 = not-found T (o .t) (o .left) i (omega arith) (c .before .loop .inv .2) in
-    omega (arith, has-room T (a .left .now) (a .plan .now) (a .arrivals .now) ready (o .inv .0) busy on-time)
+mul-first c = omega (arith, has-room (planning c))
 
 add-next : tie.Need-add-next Inv-loop μ-loop Inv-instants μ-instants
-add-next c =
-    let a = c .before .before .before .before .before .before .before .before .before .before .before .args in
-    let T = traffic (a .nodes) (a .dst .now) (a .due .now) in
-    let ready = c .before .before .before .before .before .before .before .before .before .before .before .pre .0 in
-    let o = c .before .before .before .before .before .instants in
-    let i = c .before .loop .i in
-    let busy : anyUnderWay (o .left) ≡ true = sym (c .before .before .before .any-under-way .ensures) ∙ c .before .before .if1 .taken in
-    let on-time : lateRow T (o .t) (o .left) ≡ 0 = not-found T (o .t) (o .left) i (omega arith) (c .before .loop .inv .2) in
-    omega (arith, has-room T (a .left .now) (a .plan .now) (a .arrivals .now) ready (o .inv .0) busy on-time)
+add-next c = omega (arith, has-room (planning c))
 
 mul-plan-slot : tie.Need-mul-plan-slot Inv-loop μ-loop Inv-instants μ-instants
-mul-plan-slot c =
-    let a = c .before .before .before .before .before .before .before .before .before .before .before .before .before .args in
-    let T = traffic (a .nodes) (a .dst .now) (a .due .now) in
-    let ready = c .before .before .before .before .before .before .before .before .before .before .before .before .before .pre .0 in
-    let o = c .before .before .before .before .before .before .before .instants in
-    let i = c .before .before .before .loop .i in
-    let busy : anyUnderWay (o .left) ≡ true = sym (c .before .before .before .before .before .any-under-way .ensures) ∙ c .before .before .before .before .if1 .taken in
-    let on-time : lateRow T (o .t) (o .left) ≡ 0 = not-found T (o .t) (o .left) i (omega arith) (c .before .before .before .loop .inv .2) in
-    omega (arith, has-room T (a .left .now) (a .plan .now) (a .arrivals .now) ready (o .inv .0) busy on-time)
+mul-plan-slot c = omega (arith, has-room (planning (c .before .before)))
 
 sub-plan-slot : tie.Need-sub-plan-slot Inv-loop μ-loop Inv-instants μ-instants
-sub-plan-slot c = omega arith
+sub-plan-slot c = omega (arith, has-room (planning (c .before .before)))
 
 part-plan-slot-start : tie.Need-part-plan-slot-start Inv-loop μ-loop Inv-instants μ-instants
 part-plan-slot-start c = omega arith
 
 part-plan-slot-end : tie.Need-part-plan-slot-end Inv-loop μ-loop Inv-instants μ-instants
-part-plan-slot-end c =
-    let a = c .before .before .before .before .before .before .before .before .before .before .before .before .before .args in
-    let T = traffic (a .nodes) (a .dst .now) (a .due .now) in
-    let ready = c .before .before .before .before .before .before .before .before .before .before .before .before .before .pre .0 in
-    let o = c .before .before .before .before .before .before .before .instants in
-    let i = c .before .before .before .loop .i in
-    let busy : anyUnderWay (o .left) ≡ true = sym (c .before .before .before .before .before .any-under-way .ensures) ∙ c .before .before .before .before .if1 .taken in
-    let on-time : lateRow T (o .t) (o .left) ≡ 0 = not-found T (o .t) (o .left) i (omega arith) (c .before .before .before .loop .inv .2) in
-    has-room T (a .left .now) (a .plan .now) (a .arrivals .now) ready (o .inv .0) busy on-time
+part-plan-slot-end c = has-room (planning (c .before .before))
 
 plan-slot-requires : tie.Need-plan-slot-requires Inv-loop μ-loop Inv-instants μ-instants
-plan-slot-requires c κs =
-    let a = c .before .before .before .before .before .before .before .before .before .before .before .before .before .before .before .args in
-    let T = traffic (a .nodes) (a .dst .now) (a .due .now) in
-    let ready = c .before .before .before .before .before .before .before .before .before .before .before .before .before .before .before .pre .0 in
-    let o = c .before .before .before .before .before .before .before .before .before .instants in
-    let i = c .before .before .before .before .before .loop .i in
-    let busy : anyUnderWay (o .left) ≡ true = sym (c .before .before .before .before .before .before .before .any-under-way .ensures) ∙ c .before .before .before .before .before .before .if1 .taken in
-    let on-time : lateRow T (o .t) (o .left) ≡ 0 = not-found T (o .t) (o .left) i (omega arith) (c .before .before .before .before .before .loop .inv .2) in
-    can-plan T (a .left .now) (a .plan .now) (a .arrivals .now) ready (o .inv .0) busy on-time _ (o .inv .1)
+plan-slot-requires c κs = can-plan (planning (c .before .before .before .before))
 
 add-t : tie.Need-add-t Inv-loop μ-loop Inv-instants μ-instants
 add-t c =
-    let a = c .before .before .before .before .before .before .before .before .before .before .before .before .before .before .before .before .before .before .before .before .before .before .before .args in
-    let T = traffic (a .nodes) (a .dst .now) (a .due .now) in
-    let ready = c .before .before .before .before .before .before .before .before .before .before .before .before .before .before .before .before .before .before .before .before .before .before .before .pre .0 in
-    let o = c .before .before .before .before .before .before .before .before .before .before .before .before .before .before .before .before .before .instants in
-    let i = c .before .before .before .before .before .before .before .before .before .before .before .before .before .loop .i in
-    let busy : anyUnderWay (o .left) ≡ true = sym (c .before .before .before .before .before .before .before .before .before .before .before .before .before .before .before .any-under-way .ensures) ∙ c .before .before .before .before .before .before .before .before .before .before .before .before .before .before .if1 .taken in
-    let on-time : lateRow T (o .t) (o .left) ≡ 0 = not-found T (o .t) (o .left) i (omega arith) (c .before .before .before .before .before .before .before .before .before .before .before .before .before .loop .inv .2) in
-    omega (arith, before-last T (a .left .now) (a .plan .now) (a .arrivals .now) ready (o .inv .0) busy on-time, ready .soon)
+    let sent = c .before .before .before .before .before .before .before in
+    let k = planning (sent .before .before .before .before .before) in
+    omega (arith, before-end k)
 
 instants-less : tie.Need-instants-less Inv-loop μ-loop Inv-instants μ-instants
 instants-less c =
-    let a = c .before .before .before .before .before .before .before .before .before .before .before .before .before .before .before .before .before .before .before .before .before .before .before .args in
-    let T = traffic (a .nodes) (a .dst .now) (a .due .now) in
-    let ready = c .before .before .before .before .before .before .before .before .before .before .before .before .before .before .before .before .before .before .before .before .before .before .before .pre .0 in
-    let o = c .before .before .before .before .before .before .before .before .before .before .before .before .before .before .before .before .before .instants in
-    let i = c .before .before .before .before .before .before .before .before .before .before .before .before .before .loop .i in
-    let busy : anyUnderWay (o .left) ≡ true = sym (c .before .before .before .before .before .before .before .before .before .before .before .before .before .before .before .any-under-way .ensures) ∙ c .before .before .before .before .before .before .before .before .before .before .before .before .before .before .if1 .taken in
-    let on-time : lateRow T (o .t) (o .left) ≡ 0 = not-found T (o .t) (o .left) i (omega arith) (c .before .before .before .before .before .before .before .before .before .before .before .before .before .loop .inv .2) in
-    omega (arith, before-last T (a .left .now) (a .plan .now) (a .arrivals .now) ready (o .inv .0) busy on-time)
+    let sent = c .before .before .before .before .before .before .before in
+    let k = planning (sent .before .before .before .before .before) in
+    omega (arith, before-last k)
 
 instants-again : tie.Need-instants-again Inv-loop μ-loop Inv-instants μ-instants
 instants-again c =
-    let a = c .before .before .before .before .before .before .before .before .before .before .before .before .before .before .before .before .before .before .before .before .before .before .before .args in
-    let T = traffic (a .nodes) (a .dst .now) (a .due .now) in
-    let ready = c .before .before .before .before .before .before .before .before .before .before .before .before .before .before .before .before .before .before .before .before .before .before .before .pre .0 in
-    let o = c .before .before .before .before .before .before .before .before .before .before .before .before .before .before .before .before .before .instants in
-    let i = c .before .before .before .before .before .before .before .before .before .before .before .before .before .loop .i in
-    let busy : anyUnderWay (o .left) ≡ true = sym (c .before .before .before .before .before .before .before .before .before .before .before .before .before .before .before .any-under-way .ensures) ∙ c .before .before .before .before .before .before .before .before .before .before .before .before .before .before .if1 .taken in
-    let on-time : lateRow T (o .t) (o .left) ≡ 0 = not-found T (o .t) (o .left) i (omega arith) (c .before .before .before .before .before .before .before .before .before .before .before .before .before .loop .inv .2) in
-    let done = (c .before .before .before .before .before .before .before .plan-slot .ensures (a .due .now) (on-ring T (a .left .now) (a .plan .now) (a .arrivals .now) ready (o .inv .0) busy on-time) (o .inv .1)) in
-    rw (c .before .before .before .before .before .before .before .before .before .before .before .before .before .loop .inv .1) (again T (a .left .now) (a .plan .now) (a .arrivals .now) ready (o .inv .0) busy on-time _ _ _ _ done, done .figures ∙ ap (figuresOf T) (sym (done .moves)))
+    let sent = c .before .before .before .before .before .before .before in
+    let here = sent .before .before .before .before .before in
+    let k = planning here in
+    again k (here .before .loop .inv .1) (sent .plan-slot .ensures _ (on-ring (k .going)) (k .going .figured))
 
 same-length : tie.Need-same-length Inv-loop μ-loop Inv-instants μ-instants
-same-length c = c .before .before .before .instants .inv .0 .left-long
+same-length c = c .before .before .before .instants .inv .left-long
 
 same-length-2 : tie.Need-same-length-2 Inv-loop μ-loop Inv-instants μ-instants
 same-length-2 c =
-    let s = c .before .before .before .before .before .before .before .before .before in
-    let o = c .before .before .before .instants in
-    same-figures _ (s .args .left .now) _ _ _ (o .inv .1) (s .pre .1) (o .inv .0 .left-long)
+    let i = c .before .before .before in
+    figures-kept (i .instants .inv) (i .before .before .before .before .before .before .pre .1)
 
 same-length-3 : tie.Need-same-length-3 Inv-loop μ-loop Inv-instants μ-instants
-same-length-3 c = c .before .before .before .instants .inv .0 .plan-long
+same-length-3 c = c .before .before .before .instants .inv .plan-long
 
 same-length-4 : tie.Need-same-length-4 Inv-loop μ-loop Inv-instants μ-instants
-same-length-4 c = c .before .before .before .instants .inv .0 .arrivals-long ∙ sym (c .before .before .before .before .before .before .before .before .before .pre .0 .rows)
+same-length-4 c = c .before .before .before .instants .inv .arrivals-long
 
 returns : tie.Need-returns Inv-loop μ-loop Inv-instants μ-instants
-returns c =
-    let a = c .before .before .before .before .before .before .before .before .before .args in
-    let T = traffic (a .nodes) (a .dst .now) (a .due .now) in
-    let ready = c .before .before .before .before .before .before .before .before .before .pre .0 in
-    let o = c .before .before .before .instants in
-    over T (a .left .now) (a .plan .now) (a .arrivals .now) ready (o .inv .0) (sym (c .before .any-under-way .ensures) ∙ c .if1 .left)
+returns c = over (c .before .before .before .instants .inv) (sym (c .before .any-under-way .ensures) ∙ c .if1 .left)
 
 same-length-5 : tie.Need-same-length-5 Inv-loop μ-loop Inv-instants μ-instants
-same-length-5 c = c .before .before .before .before .before .before .before .before .before .instants .inv .0 .left-long
+same-length-5 c = c .before .before .before .before .before .before .before .before .before .instants .inv .left-long
 
 same-length-6 : tie.Need-same-length-6 Inv-loop μ-loop Inv-instants μ-instants
 same-length-6 c =
-    let s = c .before .before .before .before .before .before .before .before .before .before .before .before .before .before .before in
-    let o = c .before .before .before .before .before .before .before .before .before .instants in
-    same-figures _ (s .args .left .now) _ _ _ (o .inv .1) (s .pre .1) (o .inv .0 .left-long)
+    let i = c .before .before .before .before .before .before .before .before .before in
+    figures-kept (i .instants .inv) (i .before .before .before .before .before .before .pre .1)
 
 same-length-7 : tie.Need-same-length-7 Inv-loop μ-loop Inv-instants μ-instants
-same-length-7 c = c .before .before .before .before .before .before .before .before .before .instants .inv .0 .plan-long
+same-length-7 c = c .before .before .before .before .before .before .before .before .before .instants .inv .plan-long
 
 same-length-8 : tie.Need-same-length-8 Inv-loop μ-loop Inv-instants μ-instants
-same-length-8 c = c .before .before .before .before .before .before .before .before .before .instants .inv .0 .arrivals-long ∙ sym (c .before .before .before .before .before .before .before .before .before .before .before .before .before .before .before .pre .0 .rows)
+same-length-8 c =
+    c .before .before .before .before .before .before .before .before .before .instants .inv .arrivals-long
 
 returns-2 : tie.Need-returns-2 Inv-loop μ-loop Inv-instants μ-instants
 unfolding isLate underWay slack
 returns-2 c =
-    let a = c .before .before .before .before .before .before .before .before .before .before .before .before .before .before .before .args in
-    let T = traffic (a .nodes) (a .dst .now) (a .due .now) in
-    let ready = c .before .before .before .before .before .before .before .before .before .before .before .before .before .before .before .pre .0 in
     let o = c .before .before .before .before .before .before .before .before .before .instants in
-    let i = c .before .before .before .before .before .loop .i in
-    is-late T (a .left .now) (a .plan .now) (a .arrivals .now) ready (o .inv .0) i (found T (o .t) (o .left) i (omega arith) (sym (c .before .is-late .ensures) ∙ c .if2 .taken) (c .before .before .before .before .before .loop .inv .2))
+    let l = c .before .before .before .before .before .loop in
+    let late = sym (c .before .is-late .ensures) ∙ c .if2 .taken in
+    is-late (o .inv) (l .i) (found _ (o .t) (o .left) (l .i) (omega arith) late (l .inv .2))
 
 pub walk-spec : {M : Type 1} → statement M
 walk-spec =

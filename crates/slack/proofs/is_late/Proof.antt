@@ -14,7 +14,9 @@ slack-requires : tie.Need-slack-requires
 slack-requires c κs = search needs
 
 returns-2 : tie.Need-returns-2
-returns-2 c = below-zero (c .before .before .before .args .left .0) (c .slack .result) _ (omega arith) (c .slack .ok) (c .slack .ensures)
+returns-2 c =
+    let left = c .before .before .before .args .left .0 in
+    below-zero left (c .slack .result) _ (omega arith) (c .slack .ok) (c .slack .ensures)
 
 pub is-late-spec : {M : Type 1} → statement M
 is-late-spec = tie.close (tie.spec returns slack-requires returns-2)

@@ -1,14 +1,14 @@
--- `slack::any_under_way` meets its contract: as long as the entries passed are 0, the whole answer is that of the rest.
+-- `slot::any_under_way` meets its contract: as long as the entries passed are 0, the whole answer is that of the rest.
 -- Assumes nothing.
 use mathlib.Core.Path.{_≡_, _∙_, refl, sym}
 use Prim.Native.Nat.{_≤_, _-_}
 use native.Mathlib.Omega.{arith}
 use borrow.Author.Needs.{needs}
 use lib.ListN.{length, drop}
 use Rattle.slack.specs.Slack.{anyUnderWay}
 use Rattle.slack.proofs.Search.{any-here, any-next, any-end}
-use Rattle.slack.proofs.any_under_way.Statement.{statement}
-use Rattle.slack.proofs.any_under_way.Tie as tie
+use Rattle.slot.proofs.any_under_way.Statement.{statement}
+use Rattle.slot.proofs.any_under_way.Tie as tie
 
 abbrev Inv-loop : tie.InvT-loop
 Inv-loop left i₀ i = (i ≤ length left) × (anyUnderWay left ≡ anyUnderWay (drop i left))

@@ -1,10 +1,10 @@
-use native.Mathlib.Omega.{arith}
--- `slack::pass_node_0` meets its contract: one figure is corrected, or none.
+-- `slot::pass_node_0` meets its contract: one figure is corrected, or none.
 -- Assumes nothing.
-use Rattle.slack.proofs.Turning.{turned-none, correction-fits, corrected}
+use native.Mathlib.Omega.{arith}
+use Rattle.slot.proofs.Turning.{turned-none, correction-fits, corrected}
 use borrow.Author.Needs.{needs}
-use Rattle.slack.proofs.pass_node_0.Statement.{statement}
-use Rattle.slack.proofs.pass_node_0.Tie as tie
+use Rattle.slot.proofs.pass_node_0.Statement.{statement}
+use Rattle.slot.proofs.pass_node_0.Tie as tie
 
 sub-row : tie.Need-sub-row
 sub-row c = search needs
@@ -16,7 +16,9 @@ shared-slice-read-row : tie.Need-shared-slice-read-row
 shared-slice-read-row c = search needs
 
 returns : tie.Need-returns
-returns c = turned-none (c .before .before .args .nodes) (c .before .before .args .slot .now) (c .before .before .args .figure .now) (c .if1 .taken)
+returns c =
+    let a = c .before .before .args in
+    turned-none (a .nodes) (a .slot .now) (a .figure .now) (c .if1 .taken)
 
 sub-i : tie.Need-sub-i
 sub-i c = search needs

@@ -14,20 +14,21 @@ use lib.ListN.{length, getD, set, take}
 use lib.Seq.{getD-take, length-take-le}
 use Rattle.lists.specs.Lists.{build}
 use Rattle.lists.proofs.Build.{length-build, getD-build, build-ext, build-of, set-build}
 use Rattle.slack.specs.Slack.{Traffic, OnRing, place, slotOf, moved}
 use Rattle.slack.specs.Figure.{figuresOf}
-use Rattle.slack.specs.Steps.{named, less, stamped, turned, Sending, SlotPlanned}
-use Rattle.slack.proofs.Rule.{Picked, pick-least, place-inside, slot-entry}
-use Rattle.slack.proofs.Joined.{differ}
-use Rattle.slack.proofs.Figures.{figures-next}
+use Rattle.slot.specs.Steps.{named, less, stamped, turned, Sending, SlotPlanned}
+use Rattle.slack.proofs.Rule.{Picked, place-inside, slot-length, slot-names}
+use Rattle.lists.proofs.Truth.{differ}
+use Rattle.slot.proofs.Choosing.{figures-next}
 
 pub named-then : (slot : List ℕ) (i : ℕ) → named slot i ≡ true → (q : ℕ) × (q < length slot) × (getD slot q 0 ≡ suc i)
 unfolding named
 named-then [] i e = absurd (differ e)
 named-then (x ∷ slot) i e = go (eqb x (suc i)) refl e (named-then slot i)
   where
-    go : (b : Bool) → eqb x (suc i) ≡ b → b || named slot i ≡ true → (named slot i ≡ true → (q : ℕ) × (q < length slot) × (getD slot q 0 ≡ suc i)) →
-        (q : ℕ) × (q < suc (length slot)) × (getD (x ∷ slot) q 0 ≡ suc i)
+    go : (b : Bool) → eqb x (suc i) ≡ b → b || named slot i ≡ true
+        → (named slot i ≡ true → (q : ℕ) × (q < length slot) × (getD slot q 0 ≡ suc i))
+        → (q : ℕ) × (q < suc (length slot)) × (getD (x ∷ slot) q 0 ≡ suc i)
     go true h e′ rest = (0, omega arith, eqb-true x (suc i) h)
     go false h e′ rest = let r = rest e′ in (suc (r .0), omega arith, r .2)
 
@@ -38,13 +39,15 @@ then-named (x ∷ slot) i zero h e = rw (eq-eqb x (suc i) e)
 then-named (x ∷ slot) i (suc q) h e = rw (then-named slot i q (omega arith) e, or-true)
 
 -- one link more
-named-suc : (slot : List ℕ) (p i : ℕ) → p < length slot → named (take (suc p) slot) i ≡ (named (take p slot) i || eqb (getD slot p 0) (suc i))
+named-suc : (slot : List ℕ) (p i : ℕ) → p < length slot
+    → named (take (suc p) slot) i ≡ (named (take p slot) i || eqb (getD slot p 0) (suc i))
 unfolding named
 named-suc [] p i h = absurd (not-suc-le-zero h)
 named-suc (x ∷ slot) zero i h = or-false (eqb x (suc i))
 named-suc (x ∷ slot) (suc p) i h = rw (named-suc slot p i (omega arith), or-assoc)
 
-named-more : (slot : List ℕ) (p i : ℕ) → p < length slot → named (take (p + 1) slot) i ≡ (named (take p slot) i || eqb (getD slot p 0) (suc i))
+named-more : (slot : List ℕ) (p i : ℕ) → p < length slot
+    → named (take (p + 1) slot) i ≡ (named (take p slot) i || eqb (getD slot p 0) (suc i))
 named-more slot p i h = rw add-one (named-suc slot p i h)
 
 -- A list that is built by what a slot names, and by nothing else of the slot: what one link changes in it.
@@ -57,7 +60,9 @@ module _ (n : ℕ) (F : Bool → ℕ → ℕ) (slot : List ℕ) (p : ℕ) (h : p
 
   pub busy-link : (i : ℕ) → getD slot p 0 ≡ suc i → set (after p) i (F true i) ≡ after (p + 1)
   busy-link i e =
-      ap (λ b. set (after p) i (F b i)) (sym here) ∙ set-build n (λ j. F (named (take p slot) j) j) (λ j. F (named (take (p + 1) slot) j) j) i (λ j l d. ap (λ b. F b j) (there j d))
+      ap (λ b. set (after p) i (F b i)) (sym here)
+      ∙ set-build n (λ j. F (named (take p slot) j) j) (λ j. F (named (take (p + 1) slot) j) j) i
+      (λ j l d. ap (λ b. F b j) (there j d))
     where
       here : named (take (p + 1) slot) i ≡ true
       here = named-more slot p i h ∙ rw (eq-eqb (getD slot p 0) (suc i) e, or-true)
@@ -140,17 +145,14 @@ module _ {slot left arrivals : List ℕ} (k : Sending slot left arrivals) (end :
       unfolding stamped
       arrivals-sent l e = rw e (busy-link (length arrivals) (λ b j. cond b end (getD arrivals j 0)) slot p h row is-row)
 
--- A chosen slot names only rows under way, each on the link where it stands; so being named and being named there are one.
+-- A chosen slot names only rows under way, each on the link where it stands; so being named and being named there are
+-- one.
 module _ (T : Traffic) (t : ℕ) (left : List ℕ) (ring : OnRing T left) where
   abbrev slot : List ℕ
   slot = slotOf T t left
 
-  pub slot-long : length slot ≡ T .nodes
-  unfolding slotOf
-  slot-long = length-build (T .nodes) _
-
   picked : (p i : ℕ) → p < length slot → getD slot p 0 ≡ suc i → Picked T t left p (length left) i
-  picked p i h e = pick-least T t left p (length left) i (sym (slot-entry T t left p (omega (arith, slot-long))) ∙ e)
+  picked p i h = slot-names T t left p i (omega (arith, slot-length T t left))
 
   pub chosen-sending : (arrivals : List ℕ) → length arrivals ≡ length left → Sending slot left arrivals
   chosen-sending arrivals e =
@@ -171,7 +173,8 @@ module _ (T : Traffic) (t : ℕ) (left : List ℕ) (ring : OnRing T left) where
           let r = named-then slot i e in
           sym (eq-eqb _ (suc i) (ap (λ q. getD slot q 0) (picked (r .0) i (r .1) (r .2) .stands .here) ∙ r .2))
       go false e =
-          sym (ne-eqb _ (suc i) (λ s. differ (sym e ∙ then-named slot i (place T left i) (omega (arith, slot-long, place-inside T left ring i h)) s)))
+          let inside : place T left i < length slot = omega (arith, slot-length T t left, place-inside T left ring i h) in
+          sym (ne-eqb _ (suc i) (λ s. differ (sym e ∙ then-named slot i (place T left i) inside s)))
 
   pub less-moved : less slot left ≡ moved T slot left
   unfolding less moved
@@ -181,7 +184,10 @@ module _ (T : Traffic) (t : ℕ) (left : List ℕ) (ring : OnRing T left) where
   pub can-send : (arrivals s : List ℕ) → length arrivals ≡ length left → s ≡ slot → Sending s left arrivals
   can-send arrivals s e chosen = rw chosen (chosen-sending arrivals e)
 
-  pub slot-planned : (arrivals s left′ : List ℕ) (figures′ : List ℤ) (arrivals′ : List ℕ) → s ≡ slot → figures′ ≡ turned (T .nodes) s (figuresOf T left) → (left′ ≡ less s left) × (arrivals′ ≡ stamped s (suc t) arrivals) → SlotPlanned T t left arrivals s left′ figures′ arrivals′
+  pub slot-planned : (arrivals s left′ : List ℕ) (figures′ : List ℤ) (arrivals′ : List ℕ)
+      → s ≡ slot → figures′ ≡ turned (T .nodes) s (figuresOf T left)
+      → (left′ ≡ less s left) × (arrivals′ ≡ stamped s (suc t) arrivals)
+      → SlotPlanned T t left arrivals s left′ figures′ arrivals′
   slot-planned arrivals s left′ figures′ arrivals′ chosen corrected sent =
       record {
         carries = chosen;

@@ -1,26 +1,28 @@
+-- `slot::write_figures` meets its contract: after i turns the first i figures are written.
+-- Assumes nothing.
 use mathlib.Core.Path.{sym, _≡_, _∙_, refl}
 use lib.IntN.{ℤ}
 use mir.Syntax.{w32}
 use mir.Val.{toZ, ofZ}
 use mir.Facts.{toZ-ofZ}
 use borrow.Author.Needs.{sfits-of, needs}
--- `slack::write_figures` meets its contract: after i turns the first i figures are written.
--- Assumes nothing.
 use Prim.Native.Nat.{_≤_, _-_}
 use native.Mathlib.Omega.{arith}
 use lib.ListN.{length, length-set}
 use Rattle.lists.proofs.Filling.{filled, filled-more, filled-whole}
 use Rattle.slack.specs.Slack.{traffic}
 use Rattle.slack.specs.Figure.{figure as figureIn, figuresOf}
-use Rattle.slack.proofs.write_figures.Statement.{statement}
-use Rattle.slack.proofs.write_figures.Tie as tie
+use Rattle.slot.proofs.write_figures.Statement.{statement}
+use Rattle.slot.proofs.write_figures.Tie as tie
 
 -- a figure that was stored, as it is read
 abbrev figure-value : ℤ → ℤ
 figure-value x = toZ w32 (ofZ w32 x)
 
 abbrev Inv-loop : tie.InvT-loop
-Inv-loop nodes dst due left figure₀ i₀ figure i = (i ≤ length left) × (length figure ≡ length left) × (length figure₀ ≡ length left) × (figure ≡ filled (figureIn (traffic nodes dst due) left) figure₀ i)
+Inv-loop nodes dst due left figure₀ i₀ figure i =
+    (i ≤ length left) × (length figure ≡ length left) × (length figure₀ ≡ length left)
+    × (figure ≡ filled (figureIn (traffic nodes dst due) left) figure₀ i)
 
 abbrev μ-loop : tie.MeasureT-loop
 μ-loop nodes dst due left figure₀ i₀ figure i = length left - i
@@ -66,8 +68,11 @@ unfolding figureIn
 loop-again c =
     let a = c .before .before .before .before .before .before .before .before .before .args in
     let l = c .before .before .before .before .before .loop in
-    let v : figure-value (c .figure-of .result) ≡ figureIn (traffic (a .nodes) (a .dst .now) (a .due .now)) (a .left .now) (l .i) = toZ-ofZ (sfits-of {w = w32} {z = c .figure-of .result} (c .figure-of .ok)) ∙ c .figure-of .ensures in
-    (omega arith, simp length-set (l .inv .1), l .inv .2, rw (v, l .inv .3) (filled-more (figureIn (traffic (a .nodes) (a .dst .now) (a .due .now)) (a .left .now)) (a .figure .now) (l .i) (omega (arith, l .inv .2))))
+    let f = figureIn (traffic (a .nodes) (a .dst .now) (a .due .now)) (a .left .now) in
+    let v : figure-value (c .figure-of .result) ≡ f (l .i)
+    = toZ-ofZ (sfits-of {w = w32} {z = c .figure-of .result} (c .figure-of .ok)) ∙ c .figure-of .ensures in
+    let more = filled-more f (a .figure .now) (l .i) (omega (arith, l .inv .2)) in
+    (omega arith, simp length-set (l .inv .1), l .inv .2, rw (v, l .inv .3) more)
 
 same-length : tie.Need-same-length Inv-loop μ-loop
 same-length c = c .before .loop .inv .1 ∙ sym (c .before .loop .inv .2)
@@ -76,7 +81,8 @@ returns : tie.Need-returns Inv-loop μ-loop
 unfolding figuresOf
 returns c =
     let l = c .before .loop in
-    l .inv .3 ∙ filled-whole _ _ (l .i) (length (c .before .before .before .before .before .args .left .now)) (omega (arith, l .inv .1)) (l .inv .2)
+    let left = c .before .before .before .before .before .args .left .now in
+    l .inv .3 ∙ filled-whole _ _ (l .i) (length left) (omega (arith, l .inv .1)) (l .inv .2)
 
 pub write-figures-spec : {M : Type 1} → statement M
 write-figures-spec =

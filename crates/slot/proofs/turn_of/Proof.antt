@@ -1,9 +1,9 @@
--- `slack::turn_of` meets its contract: it makes the test of the definition.
+-- `slot::turn_of` meets its contract: it makes the test of the definition.
 -- Assumes nothing.
 use borrow.Author.Tests.{lt-ltb, le-ltb}
 use Rattle.slack.specs.Figure.{turnOf}
-use Rattle.slack.proofs.turn_of.Statement.{statement}
-use Rattle.slack.proofs.turn_of.Tie as tie
+use Rattle.slot.proofs.turn_of.Statement.{statement}
+use Rattle.slot.proofs.turn_of.Tie as tie
 
 returns : tie.Need-returns
 unfolding turnOf

@@ -18,9 +18,9 @@ use lib.Signed.{mag}
 use lib.ListN.{length, getD, set, length-set}
 use lib.Seq.{getD-set-same, getD-set-other}
 use Rattle.lists.proofs.Build.{is-build}
-use Rattle.slack.specs.Steps.{turned, Turning}
+use Rattle.slot.specs.Steps.{turned, Turning}
 use Rattle.slack.proofs.Bits.{whole}
 use Rattle.slack.proofs.Signed.{difference-range}
 
 sum-range : (x : ℤ) (n : ℕ) → mag x < 2 ^ 30 → n < 2 ^ 16 → mag (x +ℤ pos n) < 2 ^ 31
 sum-range (pos a) n h k = omega arith
@@ -37,15 +37,20 @@ module _ (x : ℤ) (n : ℕ) (h : mag x < 2 ^ 30) (k : n < 2 ^ 16) where
   is-sum = toZ-ofZ sum-fits ∙ as-they-are
 
 module _ (n : ℕ) (slot : List ℕ) (figures : List ℤ) where
-  abbrev after : ℕ → ℤ
-  after i = cond (eqb (getD slot (n - 1) 0) (suc i)) (getD figures i (pos 0) +ℤ pos n) (getD figures i (pos 0))
+  -- what the last link carries
+  abbrev last : ℕ
+  last = getD slot (n - 1) 0
 
-  pub turned-none : getD slot (n - 1) 0 ≡ 0 → figures ≡ turned n slot figures
+  abbrev after : ℕ → ℤ
+  after i = cond (eqb last (suc i)) (getD figures i (pos 0) +ℤ pos n) (getD figures i (pos 0))
+
+  pub turned-none : last ≡ 0 → figures ≡ turned n slot figures
   unfolding turned
   turned-none e =
-      is-build (length figures) after (pos 0) figures refl (λ i h. rw (ne-eqb (getD slot (n - 1) 0) (suc i) (λ q. omega arith)))
+      is-build (length figures) after (pos 0) figures refl (λ i h. rw (ne-eqb last (suc i) (λ q. omega arith)))
 
-  pub turned-one : (i : ℕ) (v : ℤ) → getD slot (n - 1) 0 ≡ suc i → i < length figures → v ≡ getD figures i (pos 0) +ℤ pos n → set figures i v ≡ turned n slot figures
+  pub turned-one : (i : ℕ) (v : ℤ) → last ≡ suc i → i < length figures → v ≡ getD figures i (pos 0) +ℤ pos n
+      → set figures i v ≡ turned n slot figures
   unfolding turned
   turned-one i v e h so =
       is-build (length figures) after (pos 0) (set figures i v) (length-set figures i v) (λ j l. go j (eqb j i) refl)
@@ -53,13 +58,14 @@ module _ (n : ℕ) (slot : List ℕ) (figures : List ℤ) where
       go : (j : ℕ) (b : Bool) → eqb j i ≡ b → getD (set figures i v) j (pos 0) ≡ after j
       go j true q =
           let same : j ≡ i = eqb-true j i q in
-          rw (same, getD-set-same figures i v (pos 0) h, eq-eqb (getD slot (n - 1) 0) (suc i) e) so
+          rw (same, getD-set-same figures i v (pos 0) h, eq-eqb last (suc i) e) so
       go j false q =
           let differs = eqb-false j i q in
-          getD-set-other figures i j v (pos 0) differs ∙ rw (ne-eqb (getD slot (n - 1) 0) (suc j) (λ z. differs (omega arith)))
+          getD-set-other figures i j v (pos 0) differs ∙ rw (ne-eqb last (suc j) (λ z. differs (omega arith)))
 
 -- The same of a figure list that `pass_node_0` is handed, for the row that the last link names.
-module _ {n : ℕ} {slot : List ℕ} {figures : List ℤ} (k : Turning n slot figures) (held : getD slot (n - 1) 0 ≡ 0 → ⊥) where
+module _ {n : ℕ} {slot : List ℕ} {figures : List ℤ} (k : Turning n slot figures)
+    (held : getD slot (n - 1) 0 ≡ 0 → ⊥) where
   abbrev row : ℕ
   row = getD slot (n - 1) 0 - 1
 
@@ -73,8 +79,13 @@ module _ {n : ℕ} {slot : List ℕ} {figures : List ℤ} (k : Turning n slot fi
   inside : row < length figures
   inside = omega (arith, number, k .names)
 
-  pub correction-fits : n < 2 ^ 16 → SFits w32 (toZ w32 (ofZ w32 (getD figures row (pos 0))) +ℤ toZ w32 n)
+  -- the figure and the number of nodes, as the code adds them up
+  abbrev sum : ℤ
+  sum = toZ w32 (ofZ w32 (getD figures row (pos 0))) +ℤ toZ w32 n
+
+  pub correction-fits : n < 2 ^ 16 → SFits w32 sum
   correction-fits h = sum-fits (getD figures row (pos 0)) n (k .small row inside) h
 
-  pub corrected : n < 2 ^ 16 → set figures row (toZ w32 (ofZ w32 (toZ w32 (ofZ w32 (getD figures row (pos 0))) +ℤ toZ w32 n))) ≡ turned n slot figures
-  corrected h = turned-one n slot figures row _ number inside (is-sum (getD figures row (pos 0)) n (k .small row inside) h)
+  pub corrected : n < 2 ^ 16 → set figures row (toZ w32 (ofZ w32 sum)) ≡ turned n slot figures
+  corrected h =
+      turned-one n slot figures row _ number inside (is-sum (getD figures row (pos 0)) n (k .small row inside) h)

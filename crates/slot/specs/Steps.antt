@@ -1,4 +1,5 @@
--- What single steps of the code ask and give. The promise of a run speaks of Slack.antt alone; nothing here has to be believed.
+-- What single steps of the code ask and give. The promise of a run speaks of Slack.antt alone; nothing here has to be
+-- believed.
 use Prim.Native.Nat.{ℕ, zero, suc, pred, _-_, _≤_, _<_, _^_}
 use mathlib.Core.Path.{_≡_}
 use mathlib.Core.Bool.{Bool, false, cond, _&&_, _||_}
@@ -32,7 +33,8 @@ lower B p best i =
     underWay (B .left) i
     && (eqb (standsAt B i) p && (eqb best 0 || ltZ (getD (B .figure) i (pos 0)) (getD (B .figure) (pred best) (pos 0))))
 
--- The number of the row of lowest figure that stands at p, of the first i rows; the lower row on a tie; 0 where none stands there.
+-- The number of the row of lowest figure that stands at p, of the first i rows; the lower row on a tie; 0 where none
+-- stands there.
 unfoldable pub lowest : Board → (p i : ℕ) → ℕ
 lowest B p zero = 0
 lowest B p (suc i) = let best = lowest B p i in cond (lower B p best i) (suc i) best
@@ -44,7 +46,8 @@ seen B i = build (B .nodes) (λ p. lowest B p i)
 -- The figures once the row that the last link carries has passed node 0.
 unfoldable pub turned : (n : ℕ) (slot : List ℕ) → List ℤ → List ℤ
 turned n slot figures =
-    build (length figures) (λ i. cond (eqb (getD slot (n - 1) 0) (suc i)) (getD figures i (pos 0) +ℤ pos n) (getD figures i (pos 0)))
+    build (length figures) (λ i.
+    cond (eqb (getD slot (n - 1) 0) (suc i)) (getD figures i (pos 0) +ℤ pos n) (getD figures i (pos 0)))
 
 -- Each row of a board has a destination on the ring, a figure, and no more links to go than the ring has.
 pub record Placed (B : Board) : Type 0 where
@@ -86,8 +89,10 @@ pub record Turning (n : ℕ) (slot : List ℕ) (figures : List ℤ) : Type 0 whe
   pub names : getD slot (n - 1) 0 ≤ length figures
   pub small : (i : ℕ) → i < length figures → mag (getD figures i (pos 0)) < 2 ^ 30
 
--- A slot can be planned: the figures are those of some due slots, and there is an entry for each link and an arrival for each row.
-pub record Slotted (n : ℕ) (dst : List ℕ) (t : ℕ) (left : List ℕ) (figures : List ℤ) (slot arrivals : List ℕ) : Type 0 where
+-- A slot can be planned: the figures are those of some due slots, and there is an entry for each link and an arrival
+-- for each row.
+pub record Slotted (n : ℕ) (dst : List ℕ) (t : ℕ)
+    (left : List ℕ) (figures : List ℤ) (slot arrivals : List ℕ) : Type 0 where
   pub due : List ℕ
   pub ring : OnRing (traffic n dst due) left
   pub figured : figures ≡ figuresOf (traffic n dst due) left
@@ -98,13 +103,16 @@ pub record Slotted (n : ℕ) (dst : List ℕ) (t : ℕ) (left : List ℕ) (figur
   pub rows : length arrivals ≡ length left
 
 -- What planning one slot gives: the slot, the state after it, the figures of that state, and the stamps.
-pub record SlotPlanned (T : Traffic) (t : ℕ) (left arrivals slot left′ : List ℕ) (figures′ : List ℤ) (arrivals′ : List ℕ) : Type 0 where
+pub record SlotPlanned (T : Traffic) (t : ℕ)
+    (left arrivals slot left′ : List ℕ) (figures′ : List ℤ) (arrivals′ : List ℕ) : Type 0 where
   pub carries : slot ≡ slotOf T t left
   pub moves : left′ ≡ moved T (slotOf T t left) left
   pub figures : figures′ ≡ figuresOf T (moved T (slotOf T t left) left)
   pub stamps : arrivals′ ≡ stamped (slotOf T t left) (suc t) arrivals
 
 -- The same for whatever due slots these are the figures of: they alone say which row goes first.
-abbrev pub SlotPlannedBy : (n : ℕ) (dst : List ℕ) (t : ℕ) (left : List ℕ) (figures : List ℤ) (arrivals slot left′ : List ℕ) (figures′ : List ℤ) (arrivals′ : List ℕ) → Type 0
+abbrev pub SlotPlannedBy : (n : ℕ) (dst : List ℕ) (t : ℕ) (left : List ℕ) (figures : List ℤ)
+    (arrivals slot left′ : List ℕ) (figures′ : List ℤ) (arrivals′ : List ℕ) → Type 0
 SlotPlannedBy n dst t left figures arrivals slot left′ figures′ arrivals′ =
-    (due : List ℕ) → OnRing (traffic n dst due) left → figures ≡ figuresOf (traffic n dst due) left → SlotPlanned (traffic n dst due) t left arrivals slot left′ figures′ arrivals′
+    (due : List ℕ) → OnRing (traffic n dst due) left → figures ≡ figuresOf (traffic n dst due) left
+    → SlotPlanned (traffic n dst due) t left arrivals slot left′ figures′ arrivals′

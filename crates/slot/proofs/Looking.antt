@@ -2,21 +2,30 @@
 -- Assumes nothing.
 use mathlib.Core.Path.{_≡_, _∙_, ap, sym}
 use mathlib.Core.Bool.{Bool, true, false, cond, _||_, and-false, or-true}
-use Prim.Native.Nat.{ℕ, zero, suc, pred, _+_, _-_, _≤_, _<_}
+use Prim.Native.Nat.{ℕ, zero, suc, pred, _+_, _-_, _≤_, _<_, _^_}
 use native.Mathlib.Numerals.{add-one, sub-one}
 use native.Mathlib.Omega.{arith}
 use borrow.Author.Tests.{lt-ltb, eq-eqb, ne-eqb}
+use borrow.Author.Needs.{sfits-of}
+use mir.Syntax.{w32}
+use mir.Val.{toZ, ofZ}
+use mir.Facts.{toZ-ofZ}
 use mathlib.Core.List.{List}
 use lib.Dec.{eqb}
-use lib.IntN.{pos}
-use lib.Signed.{ltZ}
+use lib.IntN.{ℤ, pos}
+use lib.Signed.{ltZ, mag}
 use lib.ListN.{length, getD, set, replicate}
 use lib.Seq.{set-getD}
 use Rattle.lists.proofs.Build.{length-build, getD-build, build-ext, build-const, set-build}
 use Rattle.ring.specs.Ring.{standing}
 use Rattle.ring.proofs.Turn.{on-ring as turn-inside}
 use Rattle.slack.specs.Slack.{underWay}
-use Rattle.slack.specs.Steps.{Board, standsAt, lower, lowest, seen, Looking}
+use Rattle.slot.specs.Steps.{Board, standsAt, lower, lowest, seen, Looking}
+
+-- two signed numbers compared as the code does, in the bits of an i32
+pub compared : (x y : ℤ) (b : Bool) → mag x < 2 ^ 31 → mag y < 2 ^ 31
+    → ltZ (toZ w32 (ofZ w32 x)) (toZ w32 (ofZ w32 y)) ≡ b → ltZ x y ≡ b
+compared x y b fx fy = rw (toZ-ofZ (sfits-of {w = w32} {z = x} fx), toZ-ofZ (sfits-of {w = w32} {z = y} fy)) (λ t. t)
 
 -- row j has a lower figure than row k
 abbrev pub below : Board → (j k : ℕ) → Bool
@@ -46,7 +55,9 @@ module _ (B : Board) (i : ℕ) where
   -- a row counts at the node where it stands, and at no other
   one-seen : (p : ℕ) → p ≡ standsAt B i → set (seen B i) p (lowest B p (suc i)) ≡ seen B (suc i)
   unfolding seen
-  one-seen p e = set-build (B .nodes) so-far (λ q. lowest B q (suc i)) p (λ q h differs. passed q (elsewhere q (λ same. differs (sym same ∙ sym e))))
+  one-seen p e =
+      set-build (B .nodes) so-far (λ q. lowest B q (suc i)) p (λ q h differs.
+      passed q (elsewhere q (λ same. differs (sym same ∙ sym e))))
 
   module _ (p : ℕ) (at : p ≡ standsAt B i) (inside : p < B .nodes) (under-way : 0 < getD (B .left) i 0) where
     pub best-is : getD (seen B i) p 0 ≡ so-far p
@@ -101,30 +112,41 @@ module _ {B : Board} {i : ℕ} {slot : List ℕ} (k : Looking B i slot) where
   pub on-ring : (getD (B .dst) i 0 < B .nodes) × (getD (B .left) i 0 ≤ B .nodes)
   on-ring = (k .placed .dst-inside i (k .row), k .placed .left-inside i (k .row))
 
-  module _ (p : ℕ) (at : p ≡ standsAt B i) (not-there : getD (B .left) i 0 ≡ 0 → ⊥) where
-    inside : p < B .nodes
-    unfolding standsAt standing
-    inside = rw at (turn-inside (B .nodes) (getD (B .left) i 0) (getD (B .dst) i 0) (on-ring .0))
+-- The row is under way, and stands at p.
+pub record Standing (B : Board) (i : ℕ) (slot : List ℕ) (p : ℕ) : Type 0 where
+  pub looking : Looking B i slot
+  pub at : p ≡ standsAt B i
+  pub not-there : getD (B .left) i 0 ≡ 0 → ⊥
 
-    pub slot-has : p < length slot
-    slot-has = rw (k .so-far, seen-length B i) inside
+module _ {B : Board} {i : ℕ} {slot : List ℕ} {p : ℕ} (k : Standing B i slot p) where
+  way : 0 < getD (B .left) i 0
+  way = let not = k .not-there in omega arith
 
-    best-was : getD slot p 0 ≡ lowest B p i
-    best-was = rw (k .so-far) (best-is B i p at inside (omega arith))
+  inside : p < B .nodes
+  unfolding standsAt standing
+  inside = rw (k .at) (turn-inside (B .nodes) (getD (B .left) i 0) (getD (B .dst) i 0) (on-ring (k .looking) .0))
 
-    pub first : getD slot p 0 ≡ 0 → set slot p (i + 1) ≡ seen B (suc i)
-    first e = rw (k .so-far) (first-seen B i p at inside (omega arith) (sym best-was ∙ e))
+  pub slot-has : p < length slot
+  slot-has = rw (k .looking .so-far, seen-length B i) inside
 
-    module _ (held : getD slot p 0 ≡ 0 → ⊥) where
-      -- the row that the node would send so far
-      pub rival-is : getD slot p 0 - 1 < length (B .left)
-      rival-is = omega (arith, best-was, lowest-few B p i, k .row)
+  best-was : getD slot p 0 ≡ lowest B p i
+  best-was = rw (k .looking .so-far) (best-is B i p (k .at) inside way)
 
-      rival : getD slot p 0 - 1 ≡ pred (lowest B p i)
-      rival = rw (sub-one, best-was)
+  pub first : getD slot p 0 ≡ 0 → set slot p (i + 1) ≡ seen B (suc i)
+  first e = rw (k .looking .so-far) (first-seen B i p (k .at) inside way (sym best-was ∙ e))
 
-      pub tighter : below B i (getD slot p 0 - 1) ≡ true → set slot p (i + 1) ≡ seen B (suc i)
-      tighter e = rw (k .so-far) (tighter-seen B i p at inside (omega arith) (ap (below B i) (sym rival) ∙ e))
+  module _ (held : getD slot p 0 ≡ 0 → ⊥) where
+    -- the row that the node would send so far
+    pub rival-is : getD slot p 0 - 1 < length (B .left)
+    rival-is = omega (arith, best-was, lowest-few B p i, k .looking .row)
 
-      pub looser : below B i (getD slot p 0 - 1) ≡ false → slot ≡ seen B (suc i)
-      looser e = k .so-far ∙ sym (looser-seen B i p at inside (omega arith) (λ z. held (best-was ∙ z)) (ap (below B i) (sym rival) ∙ e))
+    rival : getD slot p 0 - 1 ≡ pred (lowest B p i)
+    rival = rw (sub-one, best-was)
+
+    pub tighter : below B i (getD slot p 0 - 1) ≡ true → set slot p (i + 1) ≡ seen B (suc i)
+    tighter e = rw (k .looking .so-far) (tighter-seen B i p (k .at) inside way (ap (below B i) (sym rival) ∙ e))
+
+    pub looser : below B i (getD slot p 0 - 1) ≡ false → slot ≡ seen B (suc i)
+    looser e =
+        let no-lower = ap (below B i) (sym rival) ∙ e in
+        k .looking .so-far ∙ sym (looser-seen B i p (k .at) inside way (λ z. held (best-was ∙ z)) no-lower)

@@ -1,0 +1,5 @@
+mod Choosing
+mod Looking
+mod Turning
+pub mod Sending
+mod Slotting
