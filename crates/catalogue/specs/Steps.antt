@@ -4,8 +4,7 @@ use mathlib.Core.Path.{_≡_}
 use mathlib.Core.Bool.{true}
 use mathlib.Core.List.{List}
 use lib.ListN.{length, take, drop}
-use Rattle.text.specs.declared.Writing.{Writing}
-use Rattle.catalogue.specs.Catalogue.{numbers, fields, isEnded, behindLine, roomFor, areaAfter}
+use Rattle.catalogue.specs.Catalogue.{numbers, fields, isEnded, behindLine}
 use Rattle.catalogue.specs.declared.Key.{Key}
 use Rattle.catalogue.specs.declared.Span.{Span}
 
@@ -34,8 +33,3 @@ pub record SpanOf (text bytes : List ℕ) (span : Span) : Type 0 where
   pub order : span .from ≤ span .to
   pub inside : span .to ≤ length text
   pub holds : take (span .to - span .from) (drop (span .from) text) ≡ bytes
-
--- Bytes are written into the front of an area if they fit.
-pub record Fitted (bytes area : List ℕ) (w : Writing) (area′ : List ℕ) : Type 0 where
-  pub answers : w ≡ roomFor bytes (length area)
-  pub fills : area′ ≡ areaAfter w bytes area

@@ -24,8 +24,9 @@ use Rattle.edit.specs.declared.Entry.{Entry}
 use Rattle.edit.specs.declared.Entry.the-variants.{Shown, Refused as NotShown}
 use Rattle.edit.specs.Edit as Edit
 use Rattle.edit.specs.Edit.{Edit, sizeRefusal, editRefusal, aboutRow, verdictBy}
-use Rattle.catalogue.specs.Catalogue as Catalogue
-use Rattle.catalogue.specs.Catalogue.{numbers, fields, verdictOn, isIn, sentence, labelOf}
+use Rattle.catalogue.specs.Catalogue.{numbers, fields, verdictOn, isIn}
+use Rattle.sentence.specs.Sentence as Sentence
+use Rattle.sentence.specs.Sentence.{sentence, labelOf}
 use Rattle.panel.specs.declared.PlanAnswer.{PlanAnswer}
 use Rattle.panel.specs.declared.EditAnswer.{EditAnswer}
 use Rattle.panel.specs.declared.RowAnswer.{RowAnswer}
@@ -107,8 +108,8 @@ flatSentence (NotWritten r) = record { number = r .number; row = r .row; slot = 
 
 -- The full outcome of writing bytes of a catalogue from the panel: the flattened writing, and every byte of the lent area.
 pub record PanelPut (text : List ℕ) (found : Bool) (bytes area : List ℕ) (r : SentenceAnswer) (area′ : List ℕ) : Type 0 where
-  pub answers : r ≡ flatSentence (Catalogue.afterVerdict (verdictOn text) found bytes (length area))
-  pub fills : area′ ≡ Catalogue.areaAfter (Catalogue.afterVerdict (verdictOn text) found bytes (length area)) bytes area
+  pub answers : r ≡ flatSentence (Sentence.afterVerdict (verdictOn text) found bytes (length area))
+  pub fills : area′ ≡ Sentence.areaAfter (Sentence.afterVerdict (verdictOn text) found bytes (length area)) bytes area
 
 -- That of a sentence, and of a label.
 abbrev pub PanelSentence : (text : List ℕ) (number row slot : ℕ) (area : List ℕ) → SentenceAnswer → List ℕ → Type 0

@@ -1,14 +1,14 @@
--- `catalogue::put_spoken` meets its contract: three pieces written one behind the other.
+-- `sentence::put_spoken` meets its contract: three pieces written one behind the other.
 -- Assumes nothing.
 use Prim.Native.Nat.{_≤_}
 use native.Mathlib.Omega.{arith}
 use borrow.Author.Needs.{needs}
 use lib.ListN.{length}
 use Rattle.text.proofs.Numeral.{width-most}
-use Rattle.catalogue.specs.Catalogue.{spoken}
-use Rattle.catalogue.proofs.Putting.{no-room, spoken-long, row-fits, slot-fits, spoken-put}
-use Rattle.catalogue.proofs.put_spoken.Statement.{statement}
-use Rattle.catalogue.proofs.put_spoken.Tie as tie
+use Rattle.sentence.specs.Sentence.{spoken}
+use Rattle.sentence.proofs.Putting.{no-room, spoken-long, row-fits, slot-fits, spoken-put}
+use Rattle.sentence.proofs.put_spoken.Statement.{statement}
+use Rattle.sentence.proofs.put_spoken.Tie as tie
 
 width-of-requires : tie.Need-width-of-requires
 width-of-requires c κs = search needs

@@ -1,9 +1,9 @@
--- `catalogue::sentence_of` meets its contract: what the answer names is said.
+-- `sentence::sentence_of` meets its contract: what the answer names is said.
 -- Assumes nothing.
 use mathlib.Core.Path.{sym}
 use borrow.Author.Needs.{needs}
-use Rattle.catalogue.proofs.sentence_of.Statement.{statement}
-use Rattle.catalogue.proofs.sentence_of.Tie as tie
+use Rattle.sentence.proofs.sentence_of.Statement.{statement}
+use Rattle.sentence.proofs.sentence_of.Tie as tie
 
 named-by-requires : tie.Need-named-by-requires
 named-by-requires c κs = search needs

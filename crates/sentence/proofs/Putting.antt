@@ -27,10 +27,11 @@ use Rattle.text.specs.declared.Writing.{Writing}
 use Rattle.text.specs.declared.Writing.the-variants.{Written, Refused as NotWritten}
 use Rattle.text.proofs.Numeral.{numeral-length}
 use Rattle.text.proofs.Pasting.{two-fits, three-fits, three-placed}
-use Rattle.catalogue.specs.Catalogue.{numbers, fields, keys, stringsIn, verdictOn, isIn, spoken, sentence, labelOf, roomFor, afterVerdict, areaAfter, Put}
-use Rattle.catalogue.specs.Steps.{Fitted}
+use Rattle.catalogue.specs.Catalogue.{numbers, fields, keys, stringsIn, verdictOn, isIn}
+use Rattle.sentence.specs.Sentence.{spoken, sentence, labelOf, roomFor, afterVerdict, areaAfter, Put}
+use Rattle.sentence.specs.Steps.{Fitted}
 use Rattle.catalogue.proofs.Keys.{field-at}
 use Rattle.catalogue.proofs.Strings.{label-at}
 
 module _ (bytes area : List ℕ) where
   pub no-room : {w : Writing} → w ≡ NotWritten (refuse 22 0 0) → length area < length bytes → Fitted bytes area w area

@@ -1,13 +1,13 @@
--- `catalogue::put_label` meets its contract: 33 for a field that isn't there, and else the string of its line.
+-- `sentence::put_label` meets its contract: 33 for a field that isn't there, and else the string of its line.
 -- Assumes nothing.
 use mathlib.Core.Path.{_∙_}
 use Prim.Native.Nat.{_≤_}
 use native.Mathlib.Omega.{arith}
 use borrow.Author.Needs.{needs}
 use Rattle.catalogue.proofs.Strings.{good-lines}
-use Rattle.catalogue.proofs.Putting.{no-field, is-field, label-string, without-string, with-string}
-use Rattle.catalogue.proofs.put_label.Statement.{statement}
-use Rattle.catalogue.proofs.put_label.Tie as tie
+use Rattle.sentence.proofs.Putting.{no-field, is-field, label-string, without-string, with-string}
+use Rattle.sentence.proofs.put_label.Statement.{statement}
+use Rattle.sentence.proofs.put_label.Tie as tie
 
 not-written-requires : tie.Need-not-written-requires
 not-written-requires c κs = search needs

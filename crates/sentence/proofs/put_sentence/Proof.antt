@@ -1,12 +1,12 @@
--- `catalogue::put_sentence` meets its contract: 33 for a number without a string, and else its string with the row and the slot.
+-- `sentence::put_sentence` meets its contract: 33 for a number without a string, and else its string with the row and the slot.
 -- Assumes nothing.
 use native.Mathlib.Omega.{arith}
 use borrow.Author.Needs.{needs}
 use Rattle.catalogue.specs.Catalogue.{numbers}
 use Rattle.catalogue.proofs.Strings.{good-lines}
-use Rattle.catalogue.proofs.Putting.{in-list, not-in-list, sentence-spoken, without-string, with-string}
-use Rattle.catalogue.proofs.put_sentence.Statement.{statement}
-use Rattle.catalogue.proofs.put_sentence.Tie as tie
+use Rattle.sentence.proofs.Putting.{in-list, not-in-list, sentence-spoken, without-string, with-string}
+use Rattle.sentence.proofs.put_sentence.Statement.{statement}
+use Rattle.sentence.proofs.put_sentence.Tie as tie
 
 place-of-requires : tie.Need-place-of-requires
 place-of-requires c κs = search needs
