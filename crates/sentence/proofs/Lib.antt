@@ -1,4 +1,4 @@
 mod Cases
 mod Putting
-mod Said
+pub mod Said
 pub mod Told

@@ -3,26 +3,31 @@
 --     two-fields-two-labels       two fields have two labels
 --     one-sentence, one-label     two outcomes that fit a promise are equal
 --     untouched                   a refusal leaves the area as it was
+--     written-fits, written-taken what is written lies within the area
 -- Assumes nothing.
 use mathlib.Core.Path.{_≡_, refl, _∙_, ap, sym}
-use mathlib.Core.Bool.{Bool, true, false}
+use mathlib.Core.Bool.{Bool, true, false, cond}
 use mathlib.Core.List.{List, [], _∷_, _++_}
-use Prim.Native.Nat.{ℕ, _<_}
+use Prim.Native.Nat.{ℕ, _≤_, _<_}
 use native.Mathlib.Omega.{arith}
 use borrow.Author.Tests.{ltb-true, ltb-false}
 use lib.Dec.{ltb}
-use lib.ListN.{length, getD}
+use lib.ListN.{length, getD, take, drop, length-append}
+use lib.Seq.{length-take-le}
 use Rattle.lists.specs.Lists.{firstPlace}
 use Rattle.lists.proofs.FirstPlace.{found-there}
+use Rattle.table.specs.Table.{refuse}
 use Rattle.table.specs.declared.Refusal.{Refusal}
-use Rattle.table.specs.declared.Verdict.the-variants.{Good}
+use Rattle.table.specs.declared.Verdict.{Verdict}
+use Rattle.table.specs.declared.Verdict.the-variants.{Good, Refused}
 use Rattle.text.specs.Text.{width, lastDigits, numeral}
 use Rattle.text.specs.declared.Writing.{Writing}
-use Rattle.text.specs.declared.Writing.the-variants.{Refused as NotWritten}
+use Rattle.text.specs.declared.Writing.the-variants.{Written, Refused as NotWritten}
 use Rattle.catalogue.specs.Catalogue.{fields, keys, stringsIn, labelsIn, verdictOn, isIn}
 use Rattle.catalogue.proofs.Strings.{labels-long}
 use Rattle.catalogue.proofs.Accepted.{distinct-labels}
-use Rattle.sentence.specs.Sentence.{spoken, sentence, labelOf, areaAfter, Put, SentencePut, LabelPut}
+use Rattle.sentence.specs.Sentence.{spoken, sentence, labelOf, roomFor, afterVerdict, areaAfter, Put}
+use Rattle.sentence.specs.Sentence.{SentencePut, LabelPut}
 
 -- The place of a field among the fields, and that it is one of them.
 abbrev place : ℕ → ℕ
@@ -77,6 +82,36 @@ module _ {text : List ℕ} {found : Bool} {bytes area : List ℕ} where
   pub untouched : {r : Refusal} {area′ : List ℕ} → Put text found bytes area (NotWritten r) area′ → area′ ≡ area
   unfolding areaAfter
   untouched p = p .fills
+
+-- How many bytes a writing comes to.
+written : Writing → ℕ
+written (Written k) = k
+written (NotWritten r) = 0
+
+-- It is those that were to be written, or none.
+few-written : (v : Verdict) (found : Bool) (bytes : List ℕ) (lent : ℕ)
+    → written (afterVerdict v found bytes lent) ≤ length bytes
+unfolding written afterVerdict roomFor
+few-written (Refused r) found bytes lent = omega arith
+few-written Good false bytes lent = omega arith
+few-written Good true bytes lent = go (ltb lent (length bytes))
+  where
+    go : (b : Bool) → written (cond b (NotWritten (refuse 22 0 0)) (Written (length bytes))) ≤ length bytes
+    go true = omega arith
+    go false = omega arith
+
+-- What is written lies within the area, as a caller needs that lends it on.
+module _ {text : List ℕ} {found : Bool} {bytes area area′ : List ℕ} {w : Writing} {k : ℕ}
+    (p : Put text found bytes area w area′) (e : w ≡ Written k) where
+  pub written-fits : k ≤ length area′
+  unfolding written areaAfter
+  written-fits =
+      let few = few-written (verdictOn text) found bytes (length area) in
+      let long = ap length (p .fills) ∙ ap (λ (w : Writing). length (areaAfter w bytes area)) e in
+      omega (arith, ap written (sym e ∙ p .answers), few, long, length-append bytes (drop (length bytes) area))
+
+  pub written-taken : k ≡ length (take k area′)
+  written-taken = sym (length-take-le k area′ written-fits)
 
 -- One call has one sentence, and one label.
 module _ {text area area₁ area₂ : List ℕ} {w₁ w₂ : Writing} where
