@@ -14,7 +14,9 @@ use Rattle.catalogue.specs.Catalogue.{stringRefusal, lineRefusal, linesV
 use Rattle.catalogue.specs.Catalogue.{firstRepeat, repeatedLine, afterLines, verdictOn}
 
 -- r0=, r12= and f6=.
-keys-spelt : keyOf 114 0 ∷ keyOf 114 12 ∷ keyOf 102 6 ∷ [] ≡ (114 ∷ 48 ∷ 61 ∷ []) ∷ (114 ∷ 49 ∷ 50 ∷ 61 ∷ []) ∷ (102 ∷ 54 ∷ 61 ∷ []) ∷ []
+keys-spelt :
+    keyOf 114 0 ∷ keyOf 114 12 ∷ keyOf 102 6 ∷ []
+    ≡ (114 ∷ 48 ∷ 61 ∷ []) ∷ (114 ∷ 49 ∷ 50 ∷ 61 ∷ []) ∷ (102 ∷ 54 ∷ 61 ∷ []) ∷ []
 unfolding keyOf width lastDigits numeral
 keys-spelt = refl
 
@@ -73,5 +75,7 @@ cases =
 
 -- Every verdict is as expected.
 cases-judged : map (λ (c : Case). verdictOn (c .text)) cases ≡ map (λ (c : Case). c .verdict) cases
-unfolding keyOf keys textOf firstLine isEnded behindLine stringAt stringRefusal lineRefusal linesVerdict stringsIn same among labelsIn firstRepeat repeatedLine afterLines verdictOn width lastDigits numeral starts cases good bad whole plain other again
+unfolding keyOf keys textOf firstLine isEnded behindLine stringAt stringRefusal lineRefusal linesVerdict stringsIn same
+    among labelsIn firstRepeat repeatedLine afterLines verdictOn width lastDigits numeral starts
+    cases good bad whole plain other again
 cases-judged = refl

@@ -15,7 +15,8 @@ use Rattle.table.specs.declared.Verdict.{Verdict}
 use Rattle.table.specs.declared.Verdict.the-variants.{Good, Refused}
 use Rattle.text.specs.Text.{starts}
 use Rattle.catalogue.specs.Catalogue.{numbers, keys, isIn, longest-string, isEnded, behindLine, stringAt}
-use Rattle.catalogue.specs.Catalogue.{stringRefusal, lineRefusal, linesVerdict, repeatedLine, afterLines, verdictOn}
+use Rattle.catalogue.specs.Catalogue.{stringRefusal, lineRefusal, linesVerdict, repeatedLine, afterLines}
+use Rattle.catalogue.specs.Catalogue.{verdictOn}
 
 -- A number that has a sentence, and a verdict whose number has one.
 abbrev pub Told : ℕ → Type 0

@@ -11,7 +11,8 @@ use Rattle.table.specs.declared.Verdict.{Verdict}
 use Rattle.table.specs.declared.Verdict.the-variants.{Good, Refused}
 use Rattle.text.specs.Text.{line-feed, numeral, starts}
 
--- The numbers that have a sentence, ascending: 0 for acceptance, then every refusal. Among the definitions a new refusal joins here alone.
+-- The numbers that have a sentence, ascending: 0 for acceptance, then every refusal.
+-- Among the definitions a new refusal joins here alone.
 abbrev pub numbers : List ℕ
 numbers = 0 ∷ 1 ∷ 2 ∷ 3 ∷ 4 ∷ 5 ∷ 6 ∷ 7 ∷ 8 ∷ 9 ∷ 12 ∷ 20 ∷ 21 ∷ 22 ∷ 30 ∷ 31 ∷ 32 ∷ 33 ∷ []
 
@@ -81,17 +82,20 @@ stringAt key text = drop (length key) (firstLine text)
 unfoldable pub stringRefusal : (bytes : ℕ) → ℕ
 stringRefusal bytes = cond (eqb bytes 0 || ltb longest-string bytes) 31 0
 
--- What is wrong with the first line of a text that is to have this key: 30 for a line that isn't ended or has another key, 31 for a string that is empty or too long, 0 where nothing is.
+-- What is wrong with the first line of a text that is to have this key: 30 for a line that isn't ended or has another
+-- key, 31 for a string that is empty or too long, 0 where nothing is.
 unfoldable pub lineRefusal : (key text : List ℕ) → ℕ
 lineRefusal key text =
     cond (isEnded text && starts key text) (stringRefusal (length (stringAt key text))) 30
 
--- The refusal of the first bad line, of which `above` stand above the text; 30 too for whatever stands behind the last.
+-- The refusal of the first bad line, with `above` lines above the text; 30 too for whatever stands behind the last.
 unfoldable pub linesVerdict : (keys : List (List ℕ)) (above : ℕ) → (text : List ℕ) → Verdict
 linesVerdict [] above [] = Good
 linesVerdict [] above (b ∷ bs) = Refused (refuse 30 (suc above) 0)
 linesVerdict (k ∷ ks) above text =
-    cond (eqb (lineRefusal k text) 0) (linesVerdict ks (suc above) (behindLine text)) (Refused (refuse (lineRefusal k text) (suc above) 0))
+    cond (eqb (lineRefusal k text) 0)
+    (linesVerdict ks (suc above) (behindLine text))
+    (Refused (refuse (lineRefusal k text) (suc above) 0))
 
 -- The strings of a text's lines.
 unfoldable pub stringsIn : (keys : List (List ℕ)) → (text : List ℕ) → List (List ℕ)
@@ -114,10 +118,12 @@ among s (t ∷ ts) = same s t || among s ts
 unfoldable pub labelsIn : List ℕ → List (List ℕ)
 labelsIn text = drop (length numbers) (stringsIn keys text)
 
--- The first label, of the m from place k on, that repeats an earlier one: its number, counted from 1, and 0 where none does.
+-- The first label, of the m from place k on, that repeats an earlier one: its number, counted from 1, and 0 where none
+-- does.
 unfoldable pub firstRepeat : (labels : List (List ℕ)) (m k : ℕ) → ℕ
 firstRepeat labels zero k = 0
-firstRepeat labels (suc m) k = cond (among (getD labels k []) (take k labels)) (suc k) (firstRepeat labels m (suc k))
+firstRepeat labels (suc m) k =
+    cond (among (getD labels k []) (take k labels)) (suc k) (firstRepeat labels m (suc k))
 
 -- The line of the first label that repeats an earlier one, 0 where none does.
 unfoldable pub repeatedLine : List ℕ → ℕ

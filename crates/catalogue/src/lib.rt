@@ -6,8 +6,8 @@ ghost use lib.ListN.{length, getD, drop, take};
 ghost use Rattle.lists.specs.Lists.{firstPlace};
 ghost use Rattle.table.specs.Table.{refuse};
 ghost use Rattle.catalogue.specs.Catalogue.{keyOf, numbers, fields, keys, firstLine, stringRefusal, lineRefusal};
-ghost use Rattle.catalogue.specs.Catalogue.{linesVerdict, stringsIn, labelsIn, same, among, repeatedLine, verdictOn};
-ghost use Rattle.catalogue.specs.Steps.{lines, HoldsKey, linesOn, Ended, SpanOf};
+ghost use Rattle.catalogue.specs.Catalogue.{linesVerdict, labelsIn, same, among, repeatedLine, verdictOn};
+ghost use Rattle.catalogue.specs.Steps.{lines, stringIn, HoldsKey, linesOn, Ended, SpanOf};
 use lists::first_place;
 use ring::Slot;
 use table::Refusal;
@@ -187,7 +187,7 @@ fn same_bytes(a: &[u8], b: &[u8]) -> bool
 // Where the string of line i begins and ends, in a text whose lines are all right.
 pub fn string_of(text: &[u8], i: usize) -> Span
     requires { ⌜ (linesVerdict keys 0 (now text) ≡ Verdict.Good) × (i < lines) ⌝ }
-    ensures { λ r. ⌜ SpanOf (now (text .entry)) (getD (stringsIn keys (now (text .entry))) i []) r ⌝ }
+    ensures { λ r. ⌜ SpanOf (now (text .entry)) (stringIn (now (text .entry)) i) r ⌝ }
 {
     let at = line_start(text, i);
     let key = line_key(i);
@@ -200,7 +200,7 @@ pub fn string_of(text: &[u8], i: usize) -> Span
 // Whether the string of line i is that of line k too.
 fn same_string(text: &[u8], i: usize, k: usize) -> bool
     requires { ⌜ (linesVerdict keys 0 (now text) ≡ Verdict.Good) × (i < lines) × (k < lines) ⌝ }
-    ensures { λ r. ⌜ r ≡ same (getD (stringsIn keys (now (text .entry))) i []) (getD (stringsIn keys (now (text .entry))) k []) ⌝ }
+    ensures { λ r. ⌜ r ≡ same (stringIn (now (text .entry)) i) (stringIn (now (text .entry)) k) ⌝ }
 {
     let a = string_of(text, i);
     let b = string_of(text, k);

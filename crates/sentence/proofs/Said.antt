@@ -61,7 +61,9 @@ module _ (text : List ℕ) where
       go false p true q =
           distinct-labels text e (place g) (place f) (ltb-true (place g) (place f) q) (there f in-f) (sym same)
       go false p false q =
-          other (one-place f g in-f in-g (omega (arith, ltb-false (place f) (place g) p, ltb-false (place g) (place f) q)))
+          let below = ltb-false (place f) (place g) p in
+          let above = ltb-false (place g) (place f) q in
+          other (one-place f g in-f in-g (omega (arith, below, above)))
 
   -- The sentence of acceptance ends in 0 and 0, whatever row and slot are given.
   pub accepted-ends-in-zeros : (row slot : ℕ)

@@ -24,7 +24,9 @@ spoken string row slot = string ++ (32 ∷ (numeral row ++ (32 ∷ numeral slot)
 -- The sentence of an answer: its string with the row and the slot, 0 and 0 for acceptance.
 unfoldable pub sentence : (text : List ℕ) (number row slot : ℕ) → List ℕ
 sentence text number row slot =
-    spoken (getD (stringsIn keys text) (firstPlace number numbers) []) (cond (eqb number 0) 0 row) (cond (eqb number 0) 0 slot)
+    spoken (getD (stringsIn keys text) (firstPlace number numbers) [])
+    (cond (eqb number 0) 0 row)
+    (cond (eqb number 0) 0 slot)
 
 -- The label of a field.
 unfoldable pub labelOf : (text : List ℕ) (field : ℕ) → List ℕ
@@ -34,7 +36,8 @@ labelOf text field = getD (labelsIn text) (firstPlace field fields) []
 unfoldable pub roomFor : (bytes : List ℕ) (lent : ℕ) → Writing
 roomFor bytes lent = cond (ltb lent (length bytes)) (NotWritten (refuse 22 0 0)) (Written (length bytes))
 
--- What writing bytes of a catalogue comes to: the catalogue's own refusal, then 33 for a number without a string, then 22 for room, else their number.
+-- What writing bytes of a catalogue comes to: the catalogue's own refusal, then 33 for a number without a string, then
+-- 22 for room, else their number.
 unfoldable pub afterVerdict : Verdict → (found : Bool) (bytes : List ℕ) (lent : ℕ) → Writing
 afterVerdict (Refused r) found bytes lent = NotWritten r
 afterVerdict Good found bytes lent = cond found (roomFor bytes lent) (NotWritten (refuse 33 0 0))
@@ -61,3 +64,7 @@ SentencePut text number row slot = Put text (isIn number numbers) (sentence text
 -- The full outcome of writing a label.
 abbrev pub LabelPut : (text : List ℕ) (field : ℕ) (area : List ℕ) → Writing → List ℕ → Type 0
 LabelPut text field = Put text (isIn field fields) (labelOf text field)
+
+-- The full outcome of writing the sentence of an answer of the planner.
+abbrev pub AnswerPut : (text : List ℕ) (answer : Answer) (area : List ℕ) → Writing → List ℕ → Type 0
+AnswerPut text answer = SentencePut text (named answer .number) (named answer .row) (named answer .slot .0)

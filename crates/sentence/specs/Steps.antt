@@ -1,4 +1,4 @@
--- What single steps of the code ask and give. No promise of an entry point mentions this; nothing here has to be believed.
+-- What single steps of the code ask and give. No promise of an entry point mentions this: it need not be believed.
 use Prim.Native.Nat.{ℕ}
 use mathlib.Core.Path.{_≡_}
 use mathlib.Core.List.{List}

@@ -3,7 +3,7 @@ ghost use mathlib.Core.Path.{_≡_};
 ghost use mathlib.Core.Bool.{cond};
 ghost use lib.Dec.{eqb};
 ghost use Rattle.catalogue.specs.Catalogue.{verdictOn};
-ghost use Rattle.sentence.specs.Sentence.{spoken, named, SentencePut, LabelPut};
+ghost use Rattle.sentence.specs.Sentence.{spoken, named, SentencePut, LabelPut, AnswerPut};
 ghost use Rattle.sentence.specs.Steps.{Fitted};
 use catalogue::ANSWERS;
 use catalogue::FIELDS;
@@ -96,7 +96,8 @@ fn put_label(text: &[u8], field: u16, area: &mut [u8]) -> Writing
     put_string(&text[from..to], area)
 }
 
-// Writes the sentence of an answer's number, row and slot: the catalogue is judged, then the number has to have a string, then the area room.
+// Writes the sentence of an answer's number, row and slot: the catalogue is judged, then the number has to have a
+// string, then the area room.
 pub fn sentence(text: &[u8], number: u16, row: u16, slot: u16, area: &mut [u8]) -> Writing
     ensures { λ r. ⌜ SentencePut (now (text .entry)) number row slot (now (area .entry)) r (now (area .exit)) ⌝ }
 {
@@ -134,7 +135,7 @@ fn named_by(answer: Answer) -> Refusal
 
 // Writes the sentence of an answer of the planner.
 pub fn sentence_of(text: &[u8], answer: Answer, area: &mut [u8]) -> Writing
-    ensures { λ r. ⌜ SentencePut (now (text .entry)) (named answer .number) (named answer .row) (named answer .slot .0) (now (area .entry)) r (now (area .exit)) ⌝ }
+    ensures { λ r. ⌜ AnswerPut (now (text .entry)) answer (now (area .entry)) r (now (area .exit)) ⌝ }
 {
     let r = named_by(answer);
     let slot = r.slot;

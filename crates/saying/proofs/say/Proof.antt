@@ -22,11 +22,13 @@ enum-known-writing c = search needs
 
 array-share-prefix-area : tie.Need-array-share-prefix-area
 array-share-prefix-area c =
-    written-fits (c .before .before .before .before .sentence-of .ensures) (c .before .writing .given .1)
+    let s = c .before in
+    written-fits (s .before .before .before .sentence-of .ensures) (s .writing .given .1)
 
 slice-aggregate-write-all : tie.Need-slice-aggregate-write-all
 slice-aggregate-write-all c =
-    written-taken (c .before .before .before .before .before .sentence-of .ensures) (c .before .before .writing .given .1)
+    let s = c .before .before in
+    written-taken (s .before .before .before .sentence-of .ensures) (s .writing .given .1)
 
 write-all-requires : tie.Need-write-all-requires
 write-all-requires c κs = search needs

@@ -15,7 +15,9 @@ same-length : tie.Need-same-length
 same-length c = search needs
 
 returns : tie.Need-returns
-returns c = rw (sym (c .before .before .before .before .before .named-by .ensures)) (c .before .before .sentence .ensures)
+returns c =
+    let named = c .before .before .before .before .before .named-by .ensures in
+    rw (sym named) (c .before .before .sentence .ensures)
 
 pub sentence-of-spec : {M : Type 1} → statement M
 sentence-of-spec = tie.close (tie.spec named-by-requires sentence-requires same-length returns)
