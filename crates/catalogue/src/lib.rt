@@ -1,7 +1,7 @@
 // A catalogue of strings, line by line under fixed keys, and the verdict on it.
 ghost use mathlib.Core.Path.{_≡_};
 ghost use mathlib.Core.List.{[]};
-ghost use Prim.Native.Nat.{suc, _+_, _≤_, _<_};
+ghost use Prim.Native.Nat.{_+_, _≤_, _<_};
 ghost use lib.ListN.{length, getD, drop, take};
 ghost use Rattle.lists.specs.Lists.{firstPlace};
 ghost use Rattle.table.specs.Table.{refuse};
