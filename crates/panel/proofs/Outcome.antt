@@ -21,12 +21,13 @@ use Rattle.edit.specs.Edit.{Edit, Opened, Edited, afterEdits, rowsBy}
 use Rattle.edit.proofs.Promises.{edits-make-rows}
 use Rattle.sentence.specs.Sentence as Sentence
 use Rattle.sentence.specs.Sentence.{Put}
-use Rattle.panel.specs.declared.PlanAnswer.{PlanAnswer}
-use Rattle.panel.specs.declared.EditAnswer.{EditAnswer}
-use Rattle.panel.specs.declared.ReadAnswer.{ReadAnswer}
-use Rattle.panel.specs.declared.WriteAnswer.{WriteAnswer}
-use Rattle.panel.specs.declared.SentenceAnswer.{SentenceAnswer}
-use Rattle.panel.specs.Panel.{flatOf, flatReading, flatWriting, flatVerdict, flatSentence, PanelPlanned, PanelRead, PanelWritten, PanelOpened, PanelEdited, PanelPut}
+use Rattle.flat.specs.declared.PlanAnswer.{PlanAnswer}
+use Rattle.flat.specs.declared.EditAnswer.{EditAnswer}
+use Rattle.flat.specs.declared.ReadAnswer.{ReadAnswer}
+use Rattle.flat.specs.declared.WriteAnswer.{WriteAnswer}
+use Rattle.flat.specs.declared.SentenceAnswer.{SentenceAnswer}
+use Rattle.flat.specs.Flat.{flatOf, flatReading, flatWriting, flatVerdict, flatSentence}
+use Rattle.panel.specs.Panel.{PanelPlanned, PanelRead, PanelWritten, PanelOpened, PanelEdited, PanelPut}
 
 pub flat-planned : (n : ℕ) (rows : List Row) {p a p′ a′ : List ℕ} {r : Answer} {s : PlanAnswer} → Planned n rows p a r p′ a′ → s ≡ flatOf r → PanelPlanned n rows p a s p′ a′
 flat-planned n rows {p} {a} d e = record {

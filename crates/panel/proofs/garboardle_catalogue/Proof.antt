@@ -2,7 +2,7 @@
 -- Assumes nothing.
 use mathlib.Core.Path.{_∙_, ap}
 use borrow.Author.Needs.{needs}
-use Rattle.panel.specs.Panel.{flatVerdict}
+use Rattle.flat.specs.Flat.{flatVerdict}
 use Rattle.panel.proofs.garboardle_catalogue.Statement.{statement}
 use Rattle.panel.proofs.garboardle_catalogue.Tie as tie
 

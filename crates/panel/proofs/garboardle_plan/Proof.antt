@@ -48,15 +48,15 @@ use Rattle.planner.proofs.plan as plan
 use Rattle.planner.proofs.plan.Symbol as plan-def
 use Rattle.planner.proofs.plan.Symbol.{name as #planner·plan}
 use Rattle.planner.proofs.plan.Met as plan-thm
-use Rattle.panel.specs.declared.PlanAnswer.{PlanAnswer}
-use Rattle.panel.specs.Panel.{flatOf}
-use Rattle.panel.proofs.PlanAnswer as P
-use Rattle.panel.proofs.PlanAnswer.Laws as P′
+use Rattle.flat.specs.declared.PlanAnswer.{PlanAnswer}
+use Rattle.flat.specs.Flat.{flatOf}
+use Rattle.flat.proofs.PlanAnswer as P
+use Rattle.flat.proofs.PlanAnswer.Laws as P′
 use Rattle.panel.proofs.Outcome.{flat-planned}
-use Rattle.panel.proofs.flat as flat
-use Rattle.panel.proofs.flat.Symbol as flat-def
-use Rattle.panel.proofs.flat.Symbol.{name as #panel·flat}
-use Rattle.panel.proofs.flat.Met as flat-thm
+use Rattle.flat.proofs.flat_answer as flat
+use Rattle.flat.proofs.flat_answer.Symbol as flat-def
+use Rattle.flat.proofs.flat_answer.Symbol.{name as #flat·flat-answer}
+use Rattle.flat.proofs.flat_answer.Met as flat-thm
 use Rattle.panel.proofs.garboardle_plan.Key.{name as #panel·garboardle-plan}
 use Rattle.panel.proofs.garboardle_plan as export
 use Rattle.panel.proofs.garboardle_plan.Statement as stated
@@ -161,7 +161,7 @@ module _ {M : Type 1} (𝓤 : URA M) (H : Heap 𝓤) (A : Atoms 𝓤) (W : Given
   abbrev Lasts : Type 0
   Lasts = Unit {0} × (Unit {0} × (List ℕ × (List ℕ × Unit {0})))
 
-  module _ (C : Calls 𝓤 H) (Λ : Loops 𝓤 H) (fm : FmC 𝓤 H (W .laws) C) (known-plan : Triple 𝓤 (C #planner·plan) (Plan 𝓤 H A mem run)) (known-flat : Triple 𝓤 (C #panel·flat) (Flat 𝓤 H A mem run)) where
+  module _ (C : Calls 𝓤 H) (Λ : Loops 𝓤 H) (fm : FmC 𝓤 H (W .laws) C) (known-plan : Triple 𝓤 (C #planner·plan) (Plan 𝓤 H A mem run)) (known-flat : Triple 𝓤 (C #flat·flat-answer) (Flat 𝓤 H A mem run)) where
     walk : k < 2 ^ 16 → Room R (length ys) → Room u16 (length xs₁) → Room u16 (length xs₂)
         → ent 𝓤 (onEntry 𝓤 H A export.signature (κ, (κ₁, (κ₂, tt))) (q, (q₁, (q₂, tt))) args at) (WpFn 𝓤 H C Λ code.function (vint w16 k ∷ sv ∷ v₁ ∷ v₂ ∷ []) Post)
     walk fits g g₁ g₂ =
@@ -201,7 +201,7 @@ module _ {M : Type 1} (𝓤 : URA M) (H : Heap 𝓤) (A : Atoms 𝓤) (W : Given
         free0 ! $ keep ! (1 ∷ 7 ∷ 4 ∷ 2 ∷ 0 ∷ []) $ by ! (exits r s u (zs .1 .1 .0) (zs .1 .1 .1 .0) fits d e h₁ h₂))))))))))))))))))))))
 
 module _ {M : Type 1} (𝓤 : URA M) (H : Heap 𝓤) (A : Atoms 𝓤) (W : Given 𝓤 H A) (mem : Memory → SProp 𝓤) (run : Routine → Fun 𝓤) (𝓣 : Tables 𝓤 H)
-    (known-plan : Triple 𝓤 (𝓣 .C #planner·plan) (Plan 𝓤 H A mem run)) (known-flat : Triple 𝓤 (𝓣 .C #panel·flat) (Flat 𝓤 H A mem run)) where
+    (known-plan : Triple 𝓤 (𝓣 .C #planner·plan) (Plan 𝓤 H A mem run)) (known-flat : Triple 𝓤 (𝓣 .C #flat·flat-answer) (Flat 𝓤 H A mem run)) where
   export-walks : Walks 𝓤 H A export.ended stayed (WpFn 𝓤 H (𝓣 .C) (𝓣 .Λ) code.function) (export.clauses 𝓤 H A mem run)
   export-walks = walked 𝓤 H A export.ended stayed (export.clauses 𝓤 H A mem run) (WpFn 𝓤 H (𝓣 .C) (𝓣 .Λ) code.function) (λ κs. (uint-vals w16, (slice-vals, (slice-vals, (slice-vals, tt)))))
       (λ κs. (uint-tells w16, (shr-slice-tells (named 0) (κs .0) R, (mut-slice-tells (named 1) (κs .1 .0) u16, (mut-slice-tells (named 2) (κs .1 .1 .0) u16, tt)))))
@@ -223,4 +223,4 @@ garboardle-plan-spec 𝓤 H 𝓜 𝓖 𝓡 =
     (tables 𝓤 H 𝓜 𝓡 code.env .C) (tables 𝓤 H 𝓜 𝓡 code.env .Λ) #panel·garboardle-plan code.function (code.unfolded 𝓤 H 𝓜 𝓡)
     (export-meets 𝓤 H (𝓖 .A) (givenOf 𝓤 H 𝓜 𝓖) (𝓜 .mem) (𝓡 .run) (tablesOf 𝓤 H 𝓜 (tables 𝓤 H 𝓜 𝓡 code.env))
     (cited 𝓤 H (Plan 𝓤 H (𝓖 .A) (𝓜 .mem) (𝓡 .run)) 𝓜 𝓡 code.env #planner·plan plan-def.routine code.calls-planner·plan (plan-thm.met 𝓤 H 𝓜 𝓖 𝓡))
-    (cited 𝓤 H (Flat 𝓤 H (𝓖 .A) (𝓜 .mem) (𝓡 .run)) 𝓜 𝓡 code.env #panel·flat flat-def.routine code.calls-panel·flat (flat-thm.met 𝓤 H 𝓜 𝓖 𝓡)))
+    (cited 𝓤 H (Flat 𝓤 H (𝓖 .A) (𝓜 .mem) (𝓡 .run)) 𝓜 𝓡 code.env #flat·flat-answer flat-def.routine code.calls-flat·flat-answer (flat-thm.met 𝓤 H 𝓜 𝓖 𝓡)))

@@ -21,8 +21,8 @@ element-copy-out-plan-columns c = search needs
 plan-columns-requires : tie.Need-plan-columns-requires
 plan-columns-requires c κs = search needs
 
-flat-requires : tie.Need-flat-requires
-flat-requires c κs = search needs
+flat-answer-requires : tie.Need-flat-answer-requires
+flat-answer-requires c κs = search needs
 
 same-length : tie.Need-same-length
 same-length c = search needs
@@ -32,7 +32,7 @@ same-length-2 c = search needs
 
 returns : tie.Need-returns
 returns c =
-    held-planned (nodesIn (c .before .before .before .before .before .before .before .before .before .before .before .before .before .args .table .now)) _ (c .before .before .before .before .before .before .before .before .before .before .row-count .ensures) (c .before .before .before .before .before .before .before .before .before .columns-of .ensures) (c .before .before .before .before .before .plan-columns .ensures) (c .flat .ensures)
+    held-planned (nodesIn (c .before .before .before .before .before .before .before .before .before .before .before .before .before .args .table .now)) _ (c .before .before .before .before .before .before .before .before .before .before .row-count .ensures) (c .before .before .before .before .before .before .before .before .before .columns-of .ensures) (c .before .before .before .before .before .plan-columns .ensures) (c .flat-answer .ensures)
 
 pub garboardle-plan-table-spec : {M : Type 1} → statement M
 garboardle-plan-table-spec =
@@ -43,7 +43,7 @@ garboardle-plan-table-spec =
     columns-of-requires
     element-copy-out-plan-columns
     plan-columns-requires
-    flat-requires
+    flat-answer-requires
     same-length
     same-length-2
     returns)

@@ -47,15 +47,15 @@ use Rattle.reader.proofs.read as read
 use Rattle.reader.proofs.read.Symbol as read-def
 use Rattle.reader.proofs.read.Symbol.{name as #reader·read}
 use Rattle.reader.proofs.read.Met as read-thm
-use Rattle.panel.specs.declared.ReadAnswer.{ReadAnswer}
-use Rattle.panel.specs.Panel.{flatReading}
-use Rattle.panel.proofs.ReadAnswer as P
-use Rattle.panel.proofs.ReadAnswer.Laws as P′
+use Rattle.flat.specs.declared.ReadAnswer.{ReadAnswer}
+use Rattle.flat.specs.Flat.{flatReading}
+use Rattle.flat.proofs.ReadAnswer as P
+use Rattle.flat.proofs.ReadAnswer.Laws as P′
 use Rattle.panel.proofs.Outcome.{flat-read}
-use Rattle.panel.proofs.flat_reading as flat
-use Rattle.panel.proofs.flat_reading.Symbol as flat-def
-use Rattle.panel.proofs.flat_reading.Symbol.{name as #panel·flat-reading}
-use Rattle.panel.proofs.flat_reading.Met as flat-thm
+use Rattle.flat.proofs.flat_reading as flat
+use Rattle.flat.proofs.flat_reading.Symbol as flat-def
+use Rattle.flat.proofs.flat_reading.Symbol.{name as #flat·flat-reading}
+use Rattle.flat.proofs.flat_reading.Met as flat-thm
 use Rattle.panel.proofs.garboardle_read.Key.{name as #panel·garboardle-read}
 use Rattle.panel.proofs.garboardle_read as export
 use Rattle.panel.proofs.garboardle_read.Statement as stated
@@ -149,7 +149,7 @@ module _ {M : Type 1} (𝓤 : URA M) (H : Heap 𝓤) (A : Atoms 𝓤) (W : Given
   abbrev Lasts : Type 0
   Lasts = Unit {0} × (List Row × Unit {0})
 
-  module _ (C : Calls 𝓤 H) (Λ : Loops 𝓤 H) (fm : FmC 𝓤 H (W .laws) C) (known-read : Triple 𝓤 (C #reader·read) (Read 𝓤 H A mem run)) (known-flat : Triple 𝓤 (C #panel·flat-reading) (Flat 𝓤 H A mem run)) where
+  module _ (C : Calls 𝓤 H) (Λ : Loops 𝓤 H) (fm : FmC 𝓤 H (W .laws) C) (known-read : Triple 𝓤 (C #reader·read) (Read 𝓤 H A mem run)) (known-flat : Triple 𝓤 (C #flat·flat-reading) (Flat 𝓤 H A mem run)) where
     walk : Room u8 (length xs) → Room R (length ys) → ent 𝓤 (onEntry 𝓤 H A export.signature (κ, (κ₁, tt)) (q, (q₁, tt)) args at) (WpFn 𝓤 H C Λ code.function (tv ∷ sv ∷ []) Post)
     walk g g₁ =
         qed W (tokens ∷ ‵ (owns (ShrSlice (named 0) κ u8 ∷ MutSlice (named 1) κ₁ R ∷ []) args at) ∷ []) ∵ enter ! C Λ code.function (tv ∷ sv ∷ []) _ $
@@ -183,7 +183,7 @@ module _ {M : Type 1} (𝓤 : URA M) (H : Heap 𝓤) (A : Atoms 𝓤) (W : Given
         free0 ! $ keep ! (1 ∷ 5 ∷ 2 ∷ 0 ∷ []) $ by ! (exits r s u (zs .1 .0) d e h)))))))))))))))))
 
 module _ {M : Type 1} (𝓤 : URA M) (H : Heap 𝓤) (A : Atoms 𝓤) (W : Given 𝓤 H A) (mem : Memory → SProp 𝓤) (run : Routine → Fun 𝓤) (𝓣 : Tables 𝓤 H)
-    (known-read : Triple 𝓤 (𝓣 .C #reader·read) (Read 𝓤 H A mem run)) (known-flat : Triple 𝓤 (𝓣 .C #panel·flat-reading) (Flat 𝓤 H A mem run)) where
+    (known-read : Triple 𝓤 (𝓣 .C #reader·read) (Read 𝓤 H A mem run)) (known-flat : Triple 𝓤 (𝓣 .C #flat·flat-reading) (Flat 𝓤 H A mem run)) where
   export-walks : Walks 𝓤 H A export.ended stayed (WpFn 𝓤 H (𝓣 .C) (𝓣 .Λ) code.function) (export.clauses 𝓤 H A mem run)
   export-walks = walked 𝓤 H A export.ended stayed (export.clauses 𝓤 H A mem run) (WpFn 𝓤 H (𝓣 .C) (𝓣 .Λ) code.function) (λ κs. (slice-vals, (slice-vals, tt)))
       (λ κs. (shr-slice-tells (named 0) (κs .0) u8, (mut-slice-tells (named 1) (κs .1 .0) R, tt)))
@@ -203,4 +203,4 @@ garboardle-read-spec 𝓤 H 𝓜 𝓖 𝓡 =
     (tables 𝓤 H 𝓜 𝓡 code.env .C) (tables 𝓤 H 𝓜 𝓡 code.env .Λ) #panel·garboardle-read code.function (code.unfolded 𝓤 H 𝓜 𝓡)
     (export-meets 𝓤 H (𝓖 .A) (givenOf 𝓤 H 𝓜 𝓖) (𝓜 .mem) (𝓡 .run) (tablesOf 𝓤 H 𝓜 (tables 𝓤 H 𝓜 𝓡 code.env))
     (cited 𝓤 H (Read 𝓤 H (𝓖 .A) (𝓜 .mem) (𝓡 .run)) 𝓜 𝓡 code.env #reader·read read-def.routine code.calls-reader·read (read-thm.met 𝓤 H 𝓜 𝓖 𝓡))
-    (cited 𝓤 H (Flat 𝓤 H (𝓖 .A) (𝓜 .mem) (𝓡 .run)) 𝓜 𝓡 code.env #panel·flat-reading flat-def.routine code.calls-panel·flat-reading (flat-thm.met 𝓤 H 𝓜 𝓖 𝓡)))
+    (cited 𝓤 H (Flat 𝓤 H (𝓖 .A) (𝓜 .mem) (𝓡 .run)) 𝓜 𝓡 code.env #flat·flat-reading flat-def.routine code.calls-flat·flat-reading (flat-thm.met 𝓤 H 𝓜 𝓖 𝓡)))

@@ -2,7 +2,7 @@
 -- Assumes nothing.
 use mathlib.Core.Path.{_∙_, ap}
 use borrow.Author.Needs.{needs}
-use Rattle.panel.specs.Panel.{flatEntry}
+use Rattle.flat.specs.Flat.{flatEntry}
 use Rattle.panel.proofs.garboardle_row_of.Statement.{statement}
 use Rattle.panel.proofs.garboardle_row_of.Tie as tie
 

@@ -48,15 +48,15 @@ use Rattle.writer.proofs.write as write
 use Rattle.writer.proofs.write.Symbol as write-def
 use Rattle.writer.proofs.write.Symbol.{name as #writer·write}
 use Rattle.writer.proofs.write.Met as write-thm
-use Rattle.panel.specs.declared.WriteAnswer.{WriteAnswer}
-use Rattle.panel.specs.Panel.{flatWriting}
-use Rattle.panel.proofs.WriteAnswer as P
-use Rattle.panel.proofs.WriteAnswer.Laws as P′
+use Rattle.flat.specs.declared.WriteAnswer.{WriteAnswer}
+use Rattle.flat.specs.Flat.{flatWriting}
+use Rattle.flat.proofs.WriteAnswer as P
+use Rattle.flat.proofs.WriteAnswer.Laws as P′
 use Rattle.panel.proofs.Outcome.{flat-written}
-use Rattle.panel.proofs.flat_writing as flat
-use Rattle.panel.proofs.flat_writing.Symbol as flat-def
-use Rattle.panel.proofs.flat_writing.Symbol.{name as #panel·flat-writing}
-use Rattle.panel.proofs.flat_writing.Met as flat-thm
+use Rattle.flat.proofs.flat_writing as flat
+use Rattle.flat.proofs.flat_writing.Symbol as flat-def
+use Rattle.flat.proofs.flat_writing.Symbol.{name as #flat·flat-writing}
+use Rattle.flat.proofs.flat_writing.Met as flat-thm
 use Rattle.panel.proofs.garboardle_write.Key.{name as #panel·garboardle-write}
 use Rattle.panel.proofs.garboardle_write as export
 use Rattle.panel.proofs.garboardle_write.Statement as stated
@@ -151,7 +151,7 @@ module _ {M : Type 1} (𝓤 : URA M) (H : Heap 𝓤) (A : Atoms 𝓤) (W : Given
   abbrev Lasts : Type 0
   Lasts = Unit {0} × (Unit {0} × (List ℕ × Unit {0}))
 
-  module _ (C : Calls 𝓤 H) (Λ : Loops 𝓤 H) (fm : FmC 𝓤 H (W .laws) C) (known-write : Triple 𝓤 (C #writer·write) (Write 𝓤 H A mem run)) (known-flat : Triple 𝓤 (C #panel·flat-writing) (Flat 𝓤 H A mem run)) where
+  module _ (C : Calls 𝓤 H) (Λ : Loops 𝓤 H) (fm : FmC 𝓤 H (W .laws) C) (known-write : Triple 𝓤 (C #writer·write) (Write 𝓤 H A mem run)) (known-flat : Triple 𝓤 (C #flat·flat-writing) (Flat 𝓤 H A mem run)) where
     walk : k < 2 ^ 16 → Room R (length ys) → Room u8 (length xs₁) → ent 𝓤 (onEntry 𝓤 H A export.signature (κ, (κ₁, tt)) (q, (q₁, tt)) args at) (WpFn 𝓤 H C Λ code.function (vint w16 k ∷ sv ∷ v₁ ∷ []) Post)
     walk fits g g₁ =
         qed W (tokens ∷ ‵ (owns (u16 ∷ ShrSlice (named 0) κ R ∷ MutSlice (named 1) κ₁ u8 ∷ []) args at) ∷ []) ∵ enter ! C Λ code.function (vint w16 k ∷ sv ∷ v₁ ∷ []) _ $
@@ -185,7 +185,7 @@ module _ {M : Type 1} (𝓤 : URA M) (H : Heap 𝓤) (A : Atoms 𝓤) (W : Given
         free0 ! $ keep ! (1 ∷ 6 ∷ 2 ∷ 0 ∷ []) $ by ! (exits r s u (zs .1 .1 .0) fits d e h))))))))))))))))))
 
 module _ {M : Type 1} (𝓤 : URA M) (H : Heap 𝓤) (A : Atoms 𝓤) (W : Given 𝓤 H A) (mem : Memory → SProp 𝓤) (run : Routine → Fun 𝓤) (𝓣 : Tables 𝓤 H)
-    (known-write : Triple 𝓤 (𝓣 .C #writer·write) (Write 𝓤 H A mem run)) (known-flat : Triple 𝓤 (𝓣 .C #panel·flat-writing) (Flat 𝓤 H A mem run)) where
+    (known-write : Triple 𝓤 (𝓣 .C #writer·write) (Write 𝓤 H A mem run)) (known-flat : Triple 𝓤 (𝓣 .C #flat·flat-writing) (Flat 𝓤 H A mem run)) where
   export-walks : Walks 𝓤 H A export.ended stayed (WpFn 𝓤 H (𝓣 .C) (𝓣 .Λ) code.function) (export.clauses 𝓤 H A mem run)
   export-walks = walked 𝓤 H A export.ended stayed (export.clauses 𝓤 H A mem run) (WpFn 𝓤 H (𝓣 .C) (𝓣 .Λ) code.function) (λ κs. (uint-vals w16, (slice-vals, (slice-vals, tt))))
       (λ κs. (uint-tells w16, (shr-slice-tells (named 0) (κs .0) R, (mut-slice-tells (named 1) (κs .1 .0) u8, tt))))
@@ -205,4 +205,4 @@ garboardle-write-spec 𝓤 H 𝓜 𝓖 𝓡 =
     (tables 𝓤 H 𝓜 𝓡 code.env .C) (tables 𝓤 H 𝓜 𝓡 code.env .Λ) #panel·garboardle-write code.function (code.unfolded 𝓤 H 𝓜 𝓡)
     (export-meets 𝓤 H (𝓖 .A) (givenOf 𝓤 H 𝓜 𝓖) (𝓜 .mem) (𝓡 .run) (tablesOf 𝓤 H 𝓜 (tables 𝓤 H 𝓜 𝓡 code.env))
     (cited 𝓤 H (Write 𝓤 H (𝓖 .A) (𝓜 .mem) (𝓡 .run)) 𝓜 𝓡 code.env #writer·write write-def.routine code.calls-writer·write (write-thm.met 𝓤 H 𝓜 𝓖 𝓡))
-    (cited 𝓤 H (Flat 𝓤 H (𝓖 .A) (𝓜 .mem) (𝓡 .run)) 𝓜 𝓡 code.env #panel·flat-writing flat-def.routine code.calls-panel·flat-writing (flat-thm.met 𝓤 H 𝓜 𝓖 𝓡)))
+    (cited 𝓤 H (Flat 𝓤 H (𝓖 .A) (𝓜 .mem) (𝓡 .run)) 𝓜 𝓡 code.env #flat·flat-writing flat-def.routine code.calls-flat·flat-writing (flat-thm.met 𝓤 H 𝓜 𝓖 𝓡)))

@@ -1,10 +1,10 @@
--- `panel::flat_writing` meets its contract: each arm's numbers are those of its case of `flatWriting`.
+-- `flat::flat_writing` meets its contract: each arm's numbers are those of its case of `flatWriting`.
 -- Assumes nothing.
 use mathlib.Core.Path.{sym, ap}
 use borrow.Author.Needs.{needs}
-use Rattle.panel.specs.Panel.{flatWriting}
-use Rattle.panel.proofs.flat_writing.Statement.{statement}
-use Rattle.panel.proofs.flat_writing.Tie as tie
+use Rattle.flat.specs.Flat.{flatWriting}
+use Rattle.flat.proofs.flat_writing.Statement.{statement}
+use Rattle.flat.proofs.flat_writing.Tie as tie
 
 enum-known-a : tie.Need-enum-known-a
 enum-known-a c = search needs

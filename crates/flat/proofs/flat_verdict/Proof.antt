@@ -1,10 +1,10 @@
--- `panel::flat_verdict` meets its contract: each arm's numbers are those of its case of `flatVerdict`.
+-- `flat::flat_verdict` meets its contract: each arm's numbers are those of its case of `flatVerdict`.
 -- Assumes nothing.
 use mathlib.Core.Path.{sym, ap}
 use borrow.Author.Needs.{needs}
-use Rattle.panel.specs.Panel.{flatVerdict}
-use Rattle.panel.proofs.flat_verdict.Statement.{statement}
-use Rattle.panel.proofs.flat_verdict.Tie as tie
+use Rattle.flat.specs.Flat.{flatVerdict}
+use Rattle.flat.proofs.flat_verdict.Statement.{statement}
+use Rattle.flat.proofs.flat_verdict.Tie as tie
 
 enum-told : tie.Need-enum-told
 enum-told c = search needs

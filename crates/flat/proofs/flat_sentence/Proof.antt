@@ -1,10 +1,10 @@
--- `panel::flat_sentence` meets its contract: each arm's numbers are those of its case of `flatSentence`.
+-- `flat::flat_sentence` meets its contract: each arm's numbers are those of its case of `flatSentence`.
 -- Assumes nothing.
 use mathlib.Core.Path.{sym, ap}
-use Rattle.panel.specs.Panel.{flatSentence}
+use Rattle.flat.specs.Flat.{flatSentence}
 use borrow.Author.Needs.{needs}
-use Rattle.panel.proofs.flat_sentence.Statement.{statement}
-use Rattle.panel.proofs.flat_sentence.Tie as tie
+use Rattle.flat.proofs.flat_sentence.Statement.{statement}
+use Rattle.flat.proofs.flat_sentence.Tie as tie
 
 enum-known-a : tie.Need-enum-known-a
 enum-known-a c = search needs

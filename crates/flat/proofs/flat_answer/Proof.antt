@@ -1,10 +1,10 @@
--- `panel::flat` meets its contract: each arm's numbers are those of its case of `flatOf`.
+-- `flat::flat_answer` meets its contract: each arm's numbers are those of its case of `flatOf`.
 -- Assumes nothing.
 use mathlib.Core.Path.{sym, ap}
 use borrow.Author.Needs.{needs}
-use Rattle.panel.specs.Panel.{flatOf}
-use Rattle.panel.proofs.flat.Statement.{statement}
-use Rattle.panel.proofs.flat.Tie as tie
+use Rattle.flat.specs.Flat.{flatOf}
+use Rattle.flat.proofs.flat_answer.Statement.{statement}
+use Rattle.flat.proofs.flat_answer.Tie as tie
 
 enum-known-a : tie.Need-enum-known-a
 enum-known-a c = search needs
@@ -20,5 +20,5 @@ returns-2 : tie.Need-returns-2
 unfolding flatOf
 returns-2 c = sym (ap flatOf (c .before .a2 .given .1))
 
-pub flat-spec : {M : Type 1} → statement M
-flat-spec = tie.close (tie.spec enum-known-a enum-known-a-2 returns returns-2)
+pub flat-answer-spec : {M : Type 1} → statement M
+flat-answer-spec = tie.close (tie.spec enum-known-a enum-known-a-2 returns returns-2)

@@ -1,10 +1,10 @@
--- `panel::flat_entry` meets its contract: each arm's numbers are those of its case of `flatEntry`.
+-- `flat::flat_entry` meets its contract: each arm's numbers are those of its case of `flatEntry`.
 -- Assumes nothing.
 use mathlib.Core.Path.{sym, ap}
 use borrow.Author.Needs.{needs}
-use Rattle.panel.specs.Panel.{flatEntry}
-use Rattle.panel.proofs.flat_entry.Statement.{statement}
-use Rattle.panel.proofs.flat_entry.Tie as tie
+use Rattle.flat.specs.Flat.{flatEntry}
+use Rattle.flat.proofs.flat_entry.Statement.{statement}
+use Rattle.flat.proofs.flat_entry.Tie as tie
 
 enum-known-a : tie.Need-enum-known-a
 enum-known-a c = search needs

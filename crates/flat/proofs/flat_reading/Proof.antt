@@ -1,10 +1,10 @@
--- `panel::flat_reading` meets its contract: each arm's numbers are those of its case of `flatReading`.
+-- `flat::flat_reading` meets its contract: each arm's numbers are those of its case of `flatReading`.
 -- Assumes nothing.
 use mathlib.Core.Path.{sym, ap}
 use borrow.Author.Needs.{needs}
-use Rattle.panel.specs.Panel.{flatReading}
-use Rattle.panel.proofs.flat_reading.Statement.{statement}
-use Rattle.panel.proofs.flat_reading.Tie as tie
+use Rattle.flat.specs.Flat.{flatReading}
+use Rattle.flat.proofs.flat_reading.Statement.{statement}
+use Rattle.flat.proofs.flat_reading.Tie as tie
 
 enum-known-a : tie.Need-enum-known-a
 enum-known-a c = search needs
