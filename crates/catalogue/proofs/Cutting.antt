@@ -21,7 +21,8 @@ use Rattle.table.specs.declared.Verdict.the-variants.{Good, Refused}
 use Rattle.table.proofs.Judging.{never-good}
 use Rattle.text.specs.Text.{line-feed, starts}
 use Rattle.text.proofs.Front.{differ, starts-self, starts-true}
-use Rattle.catalogue.specs.Catalogue.{longest-string, noFeed, isString, textOf, firstLine, isEnded, behindLine, stringAt, stringRefusal, lineRefusal, linesVerdict, stringsIn}
+use Rattle.catalogue.specs.Catalogue.{longest-string, noFeed, isString, textOf, firstLine, isEnded, behindLine}
+use Rattle.catalogue.specs.Catalogue.{stringAt, stringRefusal, lineRefusal, linesVerdict, stringsIn}
 use Rattle.catalogue.proofs.Lines.{key-fronts}
 
 -- An ended line is its bytes, one line feed and what stands behind.
@@ -30,7 +31,9 @@ unfolding isEnded firstLine behindLine
 line-cut [] e = absurd (differ e)
 line-cut (b ∷ t) e = go (eqb b line-feed) refl e (line-cut t)
   where
-    go : (x : Bool) → eqb b line-feed ≡ x → (x || isEnded t) ≡ true → (isEnded t ≡ true → t ≡ firstLine t ++ (line-feed ∷ behindLine t)) → b ∷ t ≡ cond x [] (b ∷ firstLine t) ++ (line-feed ∷ cond x t (behindLine t))
+    go : (x : Bool) → eqb b line-feed ≡ x → (x || isEnded t) ≡ true
+        → (isEnded t ≡ true → t ≡ firstLine t ++ (line-feed ∷ behindLine t))
+        → b ∷ t ≡ cond x [] (b ∷ firstLine t) ++ (line-feed ∷ cond x t (behindLine t))
     go true s e rest = ap (λ (c : ℕ). c ∷ t) (eqb-true b line-feed s)
     go false s e rest = ap (λ (l : List ℕ). b ∷ l) (rest e)
 
@@ -50,12 +53,14 @@ unfolding noFeed
 plain-behind [] b p = refl
 plain-behind (x ∷ a) b p = go (eqb x line-feed) p (plain-behind a b)
   where
-    go : (t : Bool) → cond t false (noFeed a) ≡ true → (noFeed a ≡ true → noFeed (a ++ b) ≡ noFeed b) → cond t false (noFeed (a ++ b)) ≡ noFeed b
+    go : (t : Bool) → cond t false (noFeed a) ≡ true → (noFeed a ≡ true → noFeed (a ++ b) ≡ noFeed b)
+        → cond t false (noFeed (a ++ b)) ≡ noFeed b
     go true p rest = absurd (differ p)
     go false p rest = rest p
 
 -- Bytes without a line feed, then one: the line is ended, it is those bytes, and the rest stands behind it.
-feed-found : (xs r : List ℕ) → noFeed xs ≡ true → (isEnded (xs ++ (line-feed ∷ r)) ≡ true) × (firstLine (xs ++ (line-feed ∷ r)) ≡ xs) × (behindLine (xs ++ (line-feed ∷ r)) ≡ r)
+feed-found : (xs r : List ℕ) → noFeed xs ≡ true
+    → let t = xs ++ (line-feed ∷ r) in (isEnded t ≡ true) × (firstLine t ≡ xs) × (behindLine t ≡ r)
 unfolding noFeed isEnded firstLine behindLine
 feed-found [] r p = (refl, refl, refl)
 feed-found (x ∷ xs) r p = go (eqb x line-feed) p (feed-found xs r)
@@ -63,7 +68,9 @@ feed-found (x ∷ xs) r p = go (eqb x line-feed) p (feed-found xs r)
     t : List ℕ
     t = xs ++ (line-feed ∷ r)
 
-    go : (b : Bool) → cond b false (noFeed xs) ≡ true → (noFeed xs ≡ true → (isEnded t ≡ true) × (firstLine t ≡ xs) × (behindLine t ≡ r)) → ((b || isEnded t) ≡ true) × (cond b [] (x ∷ firstLine t) ≡ x ∷ xs) × (cond b t (behindLine t) ≡ r)
+    go : (b : Bool) → cond b false (noFeed xs) ≡ true
+        → (noFeed xs ≡ true → (isEnded t ≡ true) × (firstLine t ≡ xs) × (behindLine t ≡ r))
+        → ((b || isEnded t) ≡ true) × (cond b [] (x ∷ firstLine t) ≡ x ∷ xs) × (cond b t (behindLine t) ≡ r)
     go true p rest = absurd (differ p)
     go false p rest = let found = rest p in (found .0, ap (λ (l : List ℕ). x ∷ l) (found .1), found .2)
 
@@ -72,7 +79,8 @@ pub length-good : (n : ℕ) → stringRefusal n ≡ 0 → (1 ≤ n) × (n ≤ lo
 unfolding stringRefusal
 length-good n e = go (eqb n 0) refl (ltb longest-string n) refl e
   where
-    go : (a : Bool) → eqb n 0 ≡ a → (b : Bool) → ltb longest-string n ≡ b → _≡_ {A = ℕ} (cond (a || b) 31 0) 0 → (1 ≤ n) × (n ≤ longest-string)
+    go : (a : Bool) → eqb n 0 ≡ a → (b : Bool) → ltb longest-string n ≡ b → _≡_ {A = ℕ} (cond (a || b) 31 0) 0
+        → (1 ≤ n) × (n ≤ longest-string)
     go true ea b eb e = absurd (omega arith)
     go false ea true eb e = absurd (omega arith)
     go false ea false eb e = (omega (arith, eqb-false n 0 ea), ltb-false longest-string n eb)
@@ -81,7 +89,8 @@ pub string-good : (s : List ℕ) → isString s ≡ true → (stringRefusal (len
 unfolding isString stringRefusal
 string-good s e = go (leb 1 (length s)) refl (leb (length s) longest-string) refl e
   where
-    go : (a : Bool) → leb 1 (length s) ≡ a → (b : Bool) → leb (length s) longest-string ≡ b → (a && (b && noFeed s)) ≡ true → (stringRefusal (length s) ≡ 0) × (noFeed s ≡ true)
+    go : (a : Bool) → leb 1 (length s) ≡ a → (b : Bool) → leb (length s) longest-string ≡ b
+        → (a && (b && noFeed s)) ≡ true → (stringRefusal (length s) ≡ 0) × (noFeed s ≡ true)
     go false ea b eb e = absurd (differ e)
     go true ea false eb e = absurd (differ e)
     go true ea true eb e =
@@ -101,28 +110,34 @@ module _ (key : List ℕ) (plain : noFeed key ≡ true) where
       string : List ℕ
       string = drop (length key) (firstLine t)
 
-      go : (a : Bool) → isEnded t ≡ a → (b : Bool) → starts key t ≡ b → cond (a && b) (stringRefusal (length string)) 30 ≡ 0 → GoodLine t
+      go : (a : Bool) → isEnded t ≡ a → (b : Bool) → starts key t ≡ b
+          → cond (a && b) (stringRefusal (length string)) 30 ≡ 0 → GoodLine t
       go false ea b eb e = absurd (omega arith)
       go true ea false eb e = absurd (omega arith)
       go true ea true eb e =
           let front : firstLine t ≡ key ++ string = starts-true key (firstLine t) (key-fronts key t plain eb) in
           let fits = length-good (length string) e in
-          let pure : noFeed string ≡ true = sym (plain-behind key string plain) ∙ ap noFeed (sym front) ∙ line-plain t in
+          let pure = sym (plain-behind key string plain) ∙ ap noFeed (sym front) ∙ line-plain t in
+          let behind = line-feed ∷ behindLine t in
           record {
-            stands = line-cut t ea ∙ ap (λ (l : List ℕ). l ++ (line-feed ∷ behindLine t)) front ∙ append-assoc key string (line-feed ∷ behindLine t);
+            stands = line-cut t ea ∙ ap (λ (l : List ℕ). l ++ behind) front ∙ append-assoc key string behind;
             right = rw (le-leb 1 (length string) (fits .0), le-leb (length string) longest-string (fits .1), pure);
           }
 
   -- The line of a key and a string is found, with its string and what stands behind it.
   line-found : (s r : List ℕ) → isString s ≡ true
-      → (lineRefusal key (key ++ (s ++ (line-feed ∷ r))) ≡ 0) × (stringAt key (key ++ (s ++ (line-feed ∷ r))) ≡ s) × (behindLine (key ++ (s ++ (line-feed ∷ r))) ≡ r)
+      → let t = key ++ (s ++ (line-feed ∷ r)) in (lineRefusal key t ≡ 0) × (stringAt key t ≡ s) × (behindLine t ≡ r)
   unfolding lineRefusal stringAt
   line-found s r good =
       let told = string-good s good in
       let found = feed-found (key ++ s) r (plain-behind key s plain ∙ told .1) in
-      let one : key ++ (s ++ (line-feed ∷ r)) ≡ (key ++ s) ++ (line-feed ∷ r) = sym (append-assoc key s (line-feed ∷ r)) in
-      let string : drop (length key) (firstLine (key ++ (s ++ (line-feed ∷ r)))) ≡ s = ap (λ (t : List ℕ). drop (length key) (firstLine t)) one ∙ ap (drop (length key)) (found .1) ∙ drop-append-seam key s in
-      (rw (string, starts-self key (s ++ (line-feed ∷ r)), ap isEnded one ∙ found .0) (told .0), string, ap behindLine one ∙ found .2)
+      let behind = s ++ (line-feed ∷ r) in
+      let one = sym (append-assoc key s (line-feed ∷ r)) in
+      let line = ap firstLine one ∙ found .1 in
+      let string = ap (drop (length key)) line ∙ drop-append-seam key s in
+      let ended = ap isEnded one ∙ found .0 in
+      let right : lineRefusal key (key ++ behind) ≡ 0 = rw (string, starts-self key behind, ended) (told .0) in
+      (right, string, ap behindLine one ∙ found .2)
 
 -- Keys without a line feed, and strings: every one of a list.
 abbrev pub AllPlain : List (List ℕ) → Type 0
@@ -137,16 +152,20 @@ strings-counted [] text = refl
 strings-counted (k ∷ ks) text = ap suc (strings-counted ks (behindLine text))
 
 -- A catalogue without a bad line has nothing wrong with its first line, nor with the rest.
-pub good-split : (k : List ℕ) (ks : List (List ℕ)) (a : ℕ) (text : List ℕ) → linesVerdict (k ∷ ks) a text ≡ Good → (lineRefusal k text ≡ 0) × (linesVerdict ks (suc a) (behindLine text) ≡ Good)
+pub good-split : (k : List ℕ) (ks : List (List ℕ)) (a : ℕ) (text : List ℕ) → linesVerdict (k ∷ ks) a text ≡ Good
+    → (lineRefusal k text ≡ 0) × (linesVerdict ks (suc a) (behindLine text) ≡ Good)
 unfolding linesVerdict
 good-split k ks a text e = go (eqb (lineRefusal k text) 0) refl e
   where
-    go : (b : Bool) → eqb (lineRefusal k text) 0 ≡ b → cond b (linesVerdict ks (suc a) (behindLine text)) (Refused (refuse (lineRefusal k text) (suc a) 0)) ≡ Good → (lineRefusal k text ≡ 0) × (linesVerdict ks (suc a) (behindLine text) ≡ Good)
+    go : (b : Bool) → eqb (lineRefusal k text) 0 ≡ b
+        → cond b (linesVerdict ks (suc a) (behindLine text)) (Refused (refuse (lineRefusal k text) (suc a) 0)) ≡ Good
+        → (lineRefusal k text ≡ 0) × (linesVerdict ks (suc a) (behindLine text) ≡ Good)
     go true q e = (eqb-true (lineRefusal k text) 0 q, e)
     go false q e = absurd (never-good _ e)
 
 -- Lines that nothing is wrong with are the text of their strings.
-pub lines-stand : (ks : List (List ℕ)) (above : ℕ) (text : List ℕ) → AllPlain ks → linesVerdict ks above text ≡ Good → (text ≡ textOf ks (stringsIn ks text)) × AllStrings (stringsIn ks text)
+pub lines-stand : (ks : List (List ℕ)) (above : ℕ) (text : List ℕ) → AllPlain ks → linesVerdict ks above text ≡ Good
+    → (text ≡ textOf ks (stringsIn ks text)) × AllStrings (stringsIn ks text)
 unfolding linesVerdict textOf stringsIn
 lines-stand [] above [] plain e = (refl, λ i h. absurd (not-suc-le-zero h))
 lines-stand [] above (b ∷ bs) plain e = absurd (never-good _ e)
@@ -154,19 +173,24 @@ lines-stand (k ∷ ks) above text plain e =
     let parts = good-split k ks above text e in
     let line = good-line k (plain 0 (omega arith)) text (parts .0) in
     let others = lines-stand ks (suc above) (behindLine text) (λ i h. plain (suc i) (omega arith)) (parts .1) in
-    (line .stands ∙ ap (λ (t : List ℕ). k ++ (stringAt k text ++ (line-feed ∷ t))) (others .0), each (line .right) (others .1))
+    let stands = line .stands ∙ ap (λ (t : List ℕ). k ++ (stringAt k text ++ (line-feed ∷ t))) (others .0) in
+    (stands, each (line .right) (others .1))
   where
-    each : isString (stringAt k text) ≡ true → AllStrings (stringsIn ks (behindLine text)) → AllStrings (stringAt k text ∷ stringsIn ks (behindLine text))
+    each : isString (stringAt k text) ≡ true → AllStrings (stringsIn ks (behindLine text))
+        → AllStrings (stringAt k text ∷ stringsIn ks (behindLine text))
     each first others zero h = first
     each first others (suc i) h = others i (omega arith)
 
 -- The text of strings has lines that nothing is wrong with, and those strings.
-pub lines-found : (ks ss : List (List ℕ)) (above : ℕ) → AllPlain ks → length ss ≡ length ks → AllStrings ss → (linesVerdict ks above (textOf ks ss) ≡ Good) × (stringsIn ks (textOf ks ss) ≡ ss)
+pub lines-found : (ks ss : List (List ℕ)) (above : ℕ) → AllPlain ks → length ss ≡ length ks → AllStrings ss
+    → (linesVerdict ks above (textOf ks ss) ≡ Good) × (stringsIn ks (textOf ks ss) ≡ ss)
 unfolding linesVerdict textOf stringsIn
 lines-found [] [] above plain e good = (refl, refl)
 lines-found [] (s ∷ ss) above plain e good = absurd (omega (arith, e))
 lines-found (k ∷ ks) [] above plain e good = absurd (omega (arith, e))
 lines-found (k ∷ ks) (s ∷ ss) above plain e good =
     let found = line-found k (plain 0 (omega arith)) s (textOf ks ss) (good 0 (omega arith)) in
-    let more = lines-found ks ss (suc above) (λ i h. plain (suc i) (omega arith)) (omega (arith, e)) (λ i h. good (suc i) (omega arith)) in
+    let plain-on : AllPlain ks = λ i h. plain (suc i) (omega arith) in
+    let good-on : AllStrings ss = λ i h. good (suc i) (omega arith) in
+    let more = lines-found ks ss (suc above) plain-on (omega (arith, e)) good-on in
     (rw (found .0, found .2) (more .0), rw (found .1, found .2, more .1))

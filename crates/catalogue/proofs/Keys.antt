@@ -54,7 +54,9 @@ keys-long = refl
 
 pub answer-key : (i : ℕ) → i < length numbers → keyOf 114 (getD numbers i 0) ≡ getD keys i []
 unfolding keys
-answer-key i h = sym (List·getD-append (map (keyOf 114) numbers) (map (keyOf 102) fields) [] i h ∙ key-at (keyOf 114) numbers i h)
+answer-key i h =
+    let here = List·getD-append (map (keyOf 114) numbers) (map (keyOf 102) fields) [] i h in
+    sym (here ∙ key-at (keyOf 114) numbers i h)
 
 pub field-at : (j : ℕ) → j < length fields → getD fields j 0 ≡ suc j
 field-at j h = getD-build (length fields) suc j 0 h
@@ -65,16 +67,22 @@ field-key i l h =
     let sum : i ≡ length (map (keyOf 114) numbers) + (i - length numbers) = omega (arith, keys-long) in
     let one : suc (i - length numbers) ≡ i - length numbers + 1 = omega arith in
     let here = getD-append-add (map (keyOf 114) numbers) (map (keyOf 102) fields) (i - length numbers) [] in
-    let field = key-at (keyOf 102) fields (i - length numbers) (omega arith) ∙ ap (keyOf 102) (field-at (i - length numbers) (omega arith) ∙ one) in
+    let number = field-at (i - length numbers) (omega arith) ∙ one in
+    let field = key-at (keyOf 102) fields (i - length numbers) (omega arith) ∙ ap (keyOf 102) number in
     sym (ap (λ (k : ℕ). getD (map (keyOf 114) numbers ++ map (keyOf 102) fields) k []) sum ∙ here ∙ field)
 
 -- Four bytes that hold such a key.
-pub holds-one : (letter n : ℕ) → n < 10 → HoldsKey (keyOf letter n) (record { bytes = letter ∷ (48 + n) ∷ 61 ∷ 0 ∷ []; length = 3 })
-holds-one letter n h = record { long = ap length (one-digit letter n h); few = omega arith; fits = omega arith; holds = one-digit letter n h }
+pub holds-one : (letter n : ℕ) → n < 10
+    → HoldsKey (keyOf letter n) (record { bytes = letter ∷ (48 + n) ∷ 61 ∷ 0 ∷ []; length = 3 })
+holds-one letter n h =
+    let key = one-digit letter n h in
+    record { long = ap length key; few = omega arith; fits = omega arith; holds = key }
 
-pub holds-two : (letter n : ℕ) → 10 ≤ n → n < 100 → HoldsKey (keyOf letter n) (record { bytes = letter ∷ (48 + n / 10) ∷ (48 + n % 10) ∷ 61 ∷ []; length = 4 })
+pub holds-two : (letter n : ℕ) → 10 ≤ n → n < 100
+    → HoldsKey (keyOf letter n) (record { bytes = letter ∷ (48 + n / 10) ∷ (48 + n % 10) ∷ 61 ∷ []; length = 4 })
 holds-two letter n l h =
-    record { long = ap length (two-digits letter n l h); few = omega arith; fits = omega arith; holds = two-digits letter n l h }
+    let key = two-digits letter n l h in
+    record { long = ap length key; few = omega arith; fits = omega arith; holds = key }
 
 pub holds-same : {key key′ : List ℕ} {held : Key} → key ≡ key′ → HoldsKey key held → HoldsKey key′ held
 holds-same e k = rw e at k
@@ -94,7 +102,8 @@ plain-at (k ∷ ks) zero p h = go (noFeed k) p
     go false p = absurd (differ p)
 plain-at (k ∷ ks) (suc i) p h = go (noFeed k) p (λ q. plain-at ks i q (le-of-suc-le-suc h))
   where
-    go : (b : Bool) → (b && allPlain ks) ≡ true → (allPlain ks ≡ true → noFeed (getD ks i []) ≡ true) → noFeed (getD ks i []) ≡ true
+    go : (b : Bool) → (b && allPlain ks) ≡ true → (allPlain ks ≡ true → noFeed (getD ks i []) ≡ true)
+        → noFeed (getD ks i []) ≡ true
     go true p rest = rest p
     go false p rest = absurd (differ p)
 
@@ -107,7 +116,8 @@ unfolding keys
 key-plain i h = plain-at keys i all-plain h
 
 -- What a look for the key of a line says of the text.
-pub key-told : {key : List ℕ} (rest : List ℕ) {held : Key} {found b : Bool} → HoldsKey key held → found ≡ starts (take (held .length) (held .bytes)) rest → found ≡ b → starts key rest ≡ b
+pub key-told : {key : List ℕ} (rest : List ℕ) {held : Key} {found b : Bool} → HoldsKey key held
+    → found ≡ starts (take (held .length) (held .bytes)) rest → found ≡ b → starts key rest ≡ b
 key-told rest k e f = sym (e ∙ rw (k .holds)) ∙ f
 
 -- A catalogue has a key for each answer and each field.

@@ -62,14 +62,18 @@ module _ (labels : List (List ℕ)) where
   none-repeats : (m k : ℕ) → New m k → firstRepeat labels m k ≡ 0
   unfolding firstRepeat
   none-repeats zero k new = refl
-  none-repeats (suc m) k new = rw (new k (omega arith) (omega arith)) (none-repeats m (suc k) (λ j l h. new j (omega arith) (omega arith)))
+  none-repeats (suc m) k new =
+      let more : New m (suc k) = λ j l h. new j (omega arith) (omega arith) in
+      rw (new k (omega arith) (omega arith)) (none-repeats m (suc k) more)
 
   repeats-none : (m k : ℕ) → firstRepeat labels m k ≡ 0 → New m k
   unfolding firstRepeat
   repeats-none zero k e = λ j l h. absurd (omega arith)
   repeats-none (suc m) k e = go (among (getD labels k []) (take k labels)) refl e (repeats-none m (suc k))
     where
-      go : (b : Bool) → among (getD labels k []) (take k labels) ≡ b → cond b (suc k) (firstRepeat labels m (suc k)) ≡ 0 → (firstRepeat labels m (suc k) ≡ 0 → New m (suc k)) → New (suc m) k
+      go : (b : Bool) → among (getD labels k []) (take k labels) ≡ b
+          → cond b (suc k) (firstRepeat labels m (suc k)) ≡ 0 → (firstRepeat labels m (suc k) ≡ 0 → New m (suc k))
+          → New (suc m) k
       go true f e rest = absurd (omega (arith, e))
       go false f e rest = λ j l h. here j l h (decLe j k)
         where
@@ -80,10 +84,17 @@ module _ (labels : List (List ℕ)) where
   -- Labels of which no two are equal have none that repeats an earlier one.
   pub distinct-none : Distinct labels → firstRepeat labels (length labels) 0 ≡ 0
   distinct-none d =
-      none-repeats (length labels) 0 (λ j l h. none-among (getD labels j []) (take j labels) (λ i u q. let long : length (take j labels) ≡ j = length-take-le j labels (omega arith) in d i j (omega arith) (omega arith) (sym (getD-take j labels i [] (omega arith)) ∙ q)))
+      none-repeats (length labels) 0 (λ j l h. none-among (getD labels j []) (take j labels) (λ i u q. other j h i u q))
+    where
+      other : (j : ℕ) → j < 0 + length labels → (i : ℕ) → i < length (take j labels)
+          → getD (take j labels) i [] ≡ getD labels j [] → ⊥
+      other j h i u q =
+          let long : length (take j labels) ≡ j = length-take-le j labels (omega arith) in
+          d i j (omega arith) (omega arith) (sym (getD-take j labels i [] (omega arith)) ∙ q)
 
   -- And the other way round.
   pub none-distinct : firstRepeat labels (length labels) 0 ≡ 0 → Distinct labels
   none-distinct e i j l h q =
       let long : length (take j labels) ≡ j = length-take-le j labels (omega arith) in
-      among-none (getD labels j []) (take j labels) i (repeats-none (length labels) 0 e j (omega arith) (omega arith)) (omega arith) (getD-take j labels i [] l ∙ q)
+      let new = repeats-none (length labels) 0 e j (omega arith) (omega arith) in
+      among-none (getD labels j []) (take j labels) i new (omega arith) (getD-take j labels i [] l ∙ q)

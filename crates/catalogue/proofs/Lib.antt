@@ -1,9 +1,8 @@
-mod Accepted
-mod Cases
+pub mod Accepted
+pub mod Cases
 mod Cutting
-mod Keys
+pub mod Keys
 mod Labels
 mod Lines
-mod Putting
-mod Strings
+pub mod Strings
 pub mod Told

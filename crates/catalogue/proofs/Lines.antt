@@ -22,14 +22,16 @@ use Rattle.table.specs.declared.Verdict.the-variants.{Good, Refused}
 use Rattle.text.specs.Text.{line-feed, starts}
 use Rattle.text.proofs.Front.{differ, starts-true}
 use Rattle.catalogue.specs.Steps.{linesOn}
-use Rattle.catalogue.specs.Catalogue.{noFeed, firstLine, isEnded, behindLine, stringAt, stringRefusal, lineRefusal, linesVerdict}
+use Rattle.catalogue.specs.Catalogue.{noFeed, firstLine, isEnded, behindLine, stringAt, stringRefusal}
+use Rattle.catalogue.specs.Catalogue.{lineRefusal, linesVerdict}
 
 module _ (text : List ℕ) (i : ℕ) where
   pub line-here : i < length text → getD text i 0 ≡ line-feed → length (firstLine (drop i text)) ≡ 0
   unfolding firstLine
   line-here h e = rw (drop-cons text i 0 h, eq-eqb (getD text i 0) line-feed e)
 
-  pub line-next : i < length text → (getD text i 0 ≡ line-feed → ⊥) → length (firstLine (drop i text)) ≡ 1 + length (firstLine (drop (i + 1) text))
+  pub line-next : i < length text → (getD text i 0 ≡ line-feed → ⊥)
+      → length (firstLine (drop i text)) ≡ 1 + length (firstLine (drop (i + 1) text))
   unfolding firstLine
   line-next h other = rw (drop-cons text i 0 h, ne-eqb (getD text i 0) line-feed other, add-one i) (omega arith)
 
@@ -43,7 +45,8 @@ unfolding isEnded firstLine
 ended-short [] e = absurd (differ e)
 ended-short (b ∷ t) e = go (eqb b line-feed) e (ended-short t)
   where
-    go : (x : Bool) → (x || isEnded t) ≡ true → (isEnded t ≡ true → length (firstLine t) < length t) → length (cond x [] (b ∷ firstLine t)) < suc (length t)
+    go : (x : Bool) → (x || isEnded t) ≡ true → (isEnded t ≡ true → length (firstLine t) < length t)
+        → length (cond x [] (b ∷ firstLine t)) < suc (length t)
     go true e rest = omega arith
     go false e rest = omega (arith, rest e)
 
@@ -52,7 +55,8 @@ unfolding isEnded firstLine
 open-whole [] e = refl
 open-whole (b ∷ t) e = go (eqb b line-feed) e (open-whole t)
   where
-    go : (x : Bool) → (x || isEnded t) ≡ false → (isEnded t ≡ false → length (firstLine t) ≡ length t) → length (cond x [] (b ∷ firstLine t)) ≡ suc (length t)
+    go : (x : Bool) → (x || isEnded t) ≡ false → (isEnded t ≡ false → length (firstLine t) ≡ length t)
+        → length (cond x [] (b ∷ firstLine t)) ≡ suc (length t)
     go true e rest = absurd (differ (sym e))
     go false e rest = ap suc (rest e)
 
@@ -63,7 +67,9 @@ key-fronts [] t p s = refl
 key-fronts (k ∷ key) [] p s = absurd (differ s)
 key-fronts (k ∷ key) (b ∷ t) p s = go (eqb k line-feed) refl p (eqb k b) refl s (key-fronts key t)
   where
-    go : (x : Bool) → eqb k line-feed ≡ x → cond x false (noFeed key) ≡ true → (y : Bool) → eqb k b ≡ y → (y && starts key t) ≡ true → (noFeed key ≡ true → starts key t ≡ true → starts key (firstLine t) ≡ true) → starts (k ∷ key) (cond (eqb b line-feed) [] (b ∷ firstLine t)) ≡ true
+    go : (x : Bool) → eqb k line-feed ≡ x → cond x false (noFeed key) ≡ true → (y : Bool) → eqb k b ≡ y
+        → (y && starts key t) ≡ true → (noFeed key ≡ true → starts key t ≡ true → starts key (firstLine t) ≡ true)
+        → starts (k ∷ key) (cond (eqb b line-feed) [] (b ∷ firstLine t)) ≡ true
     go true ex p y ey s rest = absurd (differ p)
     go false ex p false ey s rest = absurd (differ s)
     go false ex p true ey s rest =
@@ -127,14 +133,20 @@ unfolding behindLine firstLine
 behind-line [] = refl
 behind-line (b ∷ t) = go (eqb b line-feed) (behind-line t)
   where
-    go : (x : Bool) → behindLine t ≡ drop (length (firstLine t) + 1) t → cond x t (behindLine t) ≡ drop (length (cond x [] (b ∷ firstLine t)) + 1) (b ∷ t)
+    go : (x : Bool) → behindLine t ≡ drop (length (firstLine t) + 1) t
+        → cond x t (behindLine t) ≡ drop (length (cond x [] (b ∷ firstLine t)) + 1) (b ∷ t)
     go true e = refl
-    go false e = e ∙ sym (ap (λ (k : ℕ). drop k (b ∷ t)) (add-one (suc (length (firstLine t)))) ∙ ap (λ (k : ℕ). drop k t) (sym (add-one (length (firstLine t)))))
+    go false e =
+        let long = length (firstLine t) in
+        let passed = ap (λ (k : ℕ). drop k (b ∷ t)) (add-one (suc long)) in
+        e ∙ sym (passed ∙ ap (λ (k : ℕ). drop k t) (sym (add-one long)))
 
-pub behind-at : (text : List ℕ) (at end : ℕ) → end ≡ at + length (firstLine (drop at text)) → behindLine (drop at text) ≡ drop (end + 1) text
+pub behind-at : (text : List ℕ) (at end : ℕ) → end ≡ at + length (firstLine (drop at text))
+    → behindLine (drop at text) ≡ drop (end + 1) text
 behind-at text at end e =
-    let sum : at + (length (firstLine (drop at text)) + 1) ≡ end + 1 = omega arith in
-    behind-line (drop at text) ∙ drop-drop (length (firstLine (drop at text)) + 1) at text ∙ ap (λ (k : ℕ). drop k text) sum
+    let line = length (firstLine (drop at text)) in
+    let sum : at + (line + 1) ≡ end + 1 = omega arith in
+    behind-line (drop at text) ∙ drop-drop (line + 1) at text ∙ ap (λ (k : ℕ). drop k text) sum
 
 -- A line that nothing is wrong with is ended.
 pub good-is-ended : (key t : List ℕ) → lineRefusal key t ≡ 0 → isEnded t ≡ true
@@ -145,25 +157,32 @@ good-is-ended key t e = go (isEnded t) e
     go true e = refl
     go false e = absurd (omega (arith, e))
 
-pub room-behind : (text : List ℕ) (at end : ℕ) (key : List ℕ) → at ≤ length text → end ≡ at + length (firstLine (drop at text)) → lineRefusal key (drop at text) ≡ 0 → end + 1 ≤ length text
-room-behind text at end key h e good = omega (arith, ended-short (drop at text) (good-is-ended key (drop at text) good), length-drop at text)
+pub room-behind : (text : List ℕ) (at end : ℕ) (key : List ℕ) → at ≤ length text
+    → end ≡ at + length (firstLine (drop at text)) → lineRefusal key (drop at text) ≡ 0 → end + 1 ≤ length text
+room-behind text at end key h e good =
+    let ended = good-is-ended key (drop at text) good in
+    omega (arith, ended-short (drop at text) ended, length-drop at text)
 
 -- The lines of a catalogue judged one after the other.
 module _ (ks : List (List ℕ)) (i : ℕ) (text : List ℕ) where
-  pub lines-bad : (n : ℕ) → i < length ks → n ≡ lineRefusal (getD ks i []) text → (n ≡ 0 → ⊥) → linesVerdict (drop i ks) i text ≡ Refused (refuse n (i + 1) 0)
+  pub lines-bad : (n : ℕ) → i < length ks → n ≡ lineRefusal (getD ks i []) text → (n ≡ 0 → ⊥)
+      → linesVerdict (drop i ks) i text ≡ Refused (refuse n (i + 1) 0)
   unfolding linesVerdict
   lines-bad n h e bad = rw (drop-cons ks i [] h, sym e, ne-eqb n 0 bad, add-one i)
 
-  pub lines-good : i < length ks → lineRefusal (getD ks i []) text ≡ 0 → linesVerdict (drop i ks) i text ≡ linesVerdict (drop (i + 1) ks) (i + 1) (behindLine text)
+  pub lines-good : i < length ks → lineRefusal (getD ks i []) text ≡ 0
+      → linesVerdict (drop i ks) i text ≡ linesVerdict (drop (i + 1) ks) (i + 1) (behindLine text)
   unfolding linesVerdict
   lines-good h e = rw (drop-cons ks i [] h, eq-eqb (lineRefusal (getD ks i []) text) 0 e, add-one i)
 
-pub lines-over : (ks : List (List ℕ)) (i : ℕ) (text : List ℕ) → length ks ≤ i → length text ≡ 0 → linesVerdict (drop i ks) i text ≡ Good
+pub lines-over : (ks : List (List ℕ)) (i : ℕ) (text : List ℕ) → length ks ≤ i → length text ≡ 0
+    → linesVerdict (drop i ks) i text ≡ Good
 unfolding linesVerdict
 lines-over ks i [] h e = rw (drop-of-length-le ks h)
 lines-over ks i (b ∷ t) h e = absurd (omega (arith, e))
 
-pub lines-extra : (ks : List (List ℕ)) (i : ℕ) (text : List ℕ) → length ks ≤ i → 0 < length text → linesVerdict (drop i ks) i text ≡ Refused (refuse 30 (i + 1) 0)
+pub lines-extra : (ks : List (List ℕ)) (i : ℕ) (text : List ℕ) → length ks ≤ i → 0 < length text
+    → linesVerdict (drop i ks) i text ≡ Refused (refuse 30 (i + 1) 0)
 unfolding linesVerdict
 lines-extra ks i [] h e = absurd (omega arith)
 lines-extra ks i (b ∷ t) h e = rw (drop-of-length-le ks h, add-one i)
@@ -175,6 +194,11 @@ lines-on-suc zero text = refl
 lines-on-suc (suc k) text = lines-on-suc k (behindLine text)
 
 -- One line more, where it is ended.
-pub line-passed : (text : List ℕ) (at end k : ℕ) → at ≤ length text → drop at text ≡ linesOn k text → isEnded (linesOn k text) ≡ true → end ≡ at + length (firstLine (drop at text)) → (end + 1 ≤ length text) × (drop (end + 1) text ≡ linesOn (k + 1) text)
+pub line-passed : (text : List ℕ) (at end k : ℕ) → at ≤ length text → drop at text ≡ linesOn k text
+    → isEnded (linesOn k text) ≡ true → end ≡ at + length (firstLine (drop at text))
+    → (end + 1 ≤ length text) × (drop (end + 1) text ≡ linesOn (k + 1) text)
 line-passed text at end k h so ended e =
-    (omega (arith, ended-short (drop at text) (rw so ended), length-drop at text), sym (behind-at text at end e) ∙ ap behindLine so ∙ rw (add-one k) (sym (lines-on-suc k text)))
+    let ended-here : isEnded (drop at text) ≡ true = rw so ended in
+    let next : behindLine (linesOn k text) ≡ linesOn (k + 1) text = rw (add-one k) (sym (lines-on-suc k text)) in
+    let fits : end + 1 ≤ length text = omega (arith, ended-short (drop at text) ended-here, length-drop at text) in
+    (fits, sym (behind-at text at end e) ∙ ap behindLine so ∙ next)

@@ -24,8 +24,10 @@ use Rattle.table.specs.declared.Verdict.{Verdict}
 use Rattle.table.specs.declared.Verdict.the-variants.{Good, Refused}
 use Rattle.table.proofs.Judging.{never-good}
 use Rattle.text.specs.Text.{line-feed}
-use Rattle.catalogue.specs.Catalogue.{numbers, fields, keys, noFeed, same, among, labelsIn, firstRepeat, repeatedLine, afterLines, verdictOn, firstLine, behindLine, stringAt, lineRefusal, linesVerdict, stringsIn}
-use Rattle.catalogue.specs.Steps.{HoldsKey, linesOn, Ended, SpanOf}
+use Rattle.catalogue.specs.Catalogue.{numbers, fields, keys, noFeed, same, among, labelsIn, firstRepeat}
+use Rattle.catalogue.specs.Catalogue.{repeatedLine, afterLines, verdictOn, firstLine, behindLine, stringAt}
+use Rattle.catalogue.specs.Catalogue.{lineRefusal, linesVerdict, stringsIn}
+use Rattle.catalogue.specs.Steps.{stringIn, HoldsKey, linesOn, Ended, SpanOf}
 use Rattle.catalogue.specs.declared.Key.{Key}
 use Rattle.catalogue.proofs.Keys.{keys-all}
 use Rattle.catalogue.proofs.Cutting.{good-split, good-line, string-good, length-good, strings-counted}
@@ -48,7 +50,8 @@ module _ (a b : List ℕ) (i : ℕ) (long : length a ≡ length b) where
   unfolding same
   same-differ h d = rw (drop-cons a i 0 h, drop-cons b i 0 (omega arith), ne-eqb (getD a i 0) (getD b i 0) d)
 
-  pub same-next : i < length a → getD a i 0 ≡ getD b i 0 → same (drop i a) (drop i b) ≡ same (drop (i + 1) a) (drop (i + 1) b)
+  pub same-next : i < length a → getD a i 0 ≡ getD b i 0
+      → same (drop i a) (drop i b) ≡ same (drop (i + 1) a) (drop (i + 1) b)
   unfolding same
   same-next h e = rw (drop-cons a i 0 h, drop-cons b i 0 (omega arith), eq-eqb (getD a i 0) (getD b i 0) e, add-one i)
 
@@ -57,25 +60,31 @@ module _ (a b : List ℕ) (i : ℕ) (long : length a ≡ length b) where
   same-end h = let short : length b ≤ i = omega arith in rw (drop-of-length-le a h, drop-of-length-le b short)
 
 -- Nothing is wrong with line i of a catalogue without a bad line.
-pub each-good : (ks : List (List ℕ)) (a : ℕ) (text : List ℕ) (i : ℕ) → linesVerdict ks a text ≡ Good → i < length ks → lineRefusal (getD ks i []) (linesOn i text) ≡ 0
+pub each-good : (ks : List (List ℕ)) (a : ℕ) (text : List ℕ) (i : ℕ) → linesVerdict ks a text ≡ Good → i < length ks
+    → lineRefusal (getD ks i []) (linesOn i text) ≡ 0
 unfolding linesOn
 each-good [] a text i e h = absurd (not-suc-le-zero h)
 each-good (k ∷ ks) a text zero e h = good-split k ks a text e .0
-each-good (k ∷ ks) a text (suc i) e h = each-good ks (suc a) (behindLine text) i (good-split k ks a text e .1) (le-of-suc-le-suc h)
+each-good (k ∷ ks) a text (suc i) e h =
+    each-good ks (suc a) (behindLine text) i (good-split k ks a text e .1) (le-of-suc-le-suc h)
 
 -- The string of line i stands behind its key.
-pub string-at : (ks : List (List ℕ)) (text : List ℕ) (i : ℕ) → i < length ks → getD (stringsIn ks text) i [] ≡ stringAt (getD ks i []) (linesOn i text)
+pub string-at : (ks : List (List ℕ)) (text : List ℕ) (i : ℕ) → i < length ks
+    → getD (stringsIn ks text) i [] ≡ stringAt (getD ks i []) (linesOn i text)
 unfolding linesOn stringsIn
 string-at [] text i h = absurd (not-suc-le-zero h)
 string-at (k ∷ ks) text zero h = refl
 string-at (k ∷ ks) text (suc i) h = string-at ks (behindLine text) i (le-of-suc-le-suc h)
 
 -- Its lines are all ended.
-pub all-ended : (ks : List (List ℕ)) (text : List ℕ) (i : ℕ) → linesVerdict ks 0 text ≡ Good → i ≤ length ks → Ended i text
+pub all-ended : (ks : List (List ℕ)) (text : List ℕ) (i : ℕ) → linesVerdict ks 0 text ≡ Good → i ≤ length ks
+    → Ended i text
 all-ended ks text i e h k l = good-is-ended (getD ks k []) (linesOn k text) (each-good ks 0 text k e (omega arith))
 
 -- The string of a line that nothing is wrong with, by where it begins and ends.
-pub string-span : (key text t : List ℕ) (held : Key) (at end : ℕ) → HoldsKey key held → noFeed key ≡ true → at ≤ length text → drop at text ≡ t → lineRefusal key t ≡ 0 → end ≡ at + length (firstLine (drop at text)) → SpanOf text (stringAt key t) (record { from = at + held .length; to = end })
+pub string-span : (key text t : List ℕ) (held : Key) (at end : ℕ) → HoldsKey key held → noFeed key ≡ true
+    → at ≤ length text → drop at text ≡ t → lineRefusal key t ≡ 0 → end ≡ at + length (firstLine (drop at text))
+    → SpanOf text (stringAt key t) (record { from = at + held .length; to = end })
 string-span key text t held at end k plain inside e good ends =
     let line = good-line key plain t good in
     let string = stringAt key t in
@@ -84,7 +93,9 @@ string-span key text t held at end k plain inside e good ends =
     let same : length (firstLine (drop at text)) ≡ length (firstLine t) = ap (λ (r : List ℕ). length (firstLine r)) e in
     let cut : end - (at + held .length) ≡ length string = omega (arith, k .long) in
     let behind = line-feed ∷ behindLine t in
-    let start : drop (at + held .length) text ≡ string ++ behind = sym (drop-drop (held .length) at text) ∙ ap (drop (held .length)) e ∙ ap (λ (n : ℕ). drop n t) (k .long) ∙ ap (drop (length key)) (line .stands) ∙ drop-append-seam key (string ++ behind) in
+    let passed = ap (drop (length key)) (line .stands) ∙ drop-append-seam key (string ++ behind) in
+    let here = sym (drop-drop (held .length) at text) ∙ ap (drop (held .length)) e in
+    let start : drop (at + held .length) text ≡ string ++ behind = here ∙ ap (λ (n : ℕ). drop n t) (k .long) ∙ passed in
     record {
       order = omega (arith, k .long);
       inside = omega (arith, ap length e, length-drop at text, ended-short t (good-is-ended key t good));
@@ -94,14 +105,17 @@ string-span key text t held at end k plain inside e good ends =
 -- A catalogue has as many strings as keys, and the labels are the last of them.
 pub labels-long : (text : List ℕ) → length (labelsIn text) ≡ length fields
 unfolding labelsIn
-labels-long text = length-drop (length numbers) (stringsIn keys text) ∙ ap (λ (k : ℕ). k - length numbers) (strings-counted keys text ∙ keys-all)
+labels-long text =
+    omega (arith, length-drop (length numbers) (stringsIn keys text), strings-counted keys text, keys-all)
 
 pub label-at : (text : List ℕ) (k : ℕ) → getD (labelsIn text) k [] ≡ getD (stringsIn keys text) (length numbers + k) []
 unfolding labelsIn
 label-at text k = getD-drop (length numbers) (stringsIn keys text) k []
 
 -- What comparing two strings of a catalogue says of two labels.
-pub labels-told : (text : List ℕ) (k j : ℕ) {found b : Bool} → found ≡ same (getD (stringsIn keys text) (length numbers + k) []) (getD (stringsIn keys text) (length numbers + j) []) → found ≡ b → same (getD (labelsIn text) k []) (getD (labelsIn text) j []) ≡ b
+pub labels-told : (text : List ℕ) (k j : ℕ) {found b : Bool}
+    → found ≡ same (stringIn text (length numbers + k)) (stringIn text (length numbers + j))
+    → found ≡ b → same (getD (labelsIn text) k []) (getD (labelsIn text) j []) ≡ b
 labels-told text k j e f = rw (label-at text k, label-at text j) (sym e ∙ f)
 
 -- A string sought among those in front of place k, from place j on.
@@ -116,7 +130,8 @@ module _ (x : List ℕ) (list : List (List ℕ)) (k j : ℕ) where
     unfolding among
     among-here e = rw (rest, e)
 
-    pub among-next : same x (getD list j []) ≡ false → among x (take (k - j) (drop j list)) ≡ among x (take (k - (j + 1)) (drop (j + 1) list))
+    pub among-next : same x (getD list j []) ≡ false
+        → among x (take (k - j) (drop j list)) ≡ among x (take (k - (j + 1)) (drop (j + 1) list))
     unfolding among
     among-next e = rw (rest, e)
 
@@ -137,7 +152,8 @@ module _ (labels : List (List ℕ)) (m k : ℕ) where
     unfolding firstRepeat
     repeat-here e = rw (one-less, e)
 
-    pub repeat-next : among (getD labels k []) (take k labels) ≡ false → firstRepeat labels (m - k) k ≡ firstRepeat labels (m - (k + 1)) (k + 1)
+    pub repeat-next : among (getD labels k []) (take k labels) ≡ false
+        → firstRepeat labels (m - k) k ≡ firstRepeat labels (m - (k + 1)) (k + 1)
     unfolding firstRepeat
     repeat-next e = rw (one-less, e, add-one k)
 
@@ -146,7 +162,8 @@ module _ (labels : List (List ℕ)) (m k : ℕ) where
   repeat-end h = let none : m - k ≡ 0 = omega arith in rw none
 
 module _ (text : List ℕ) where
-  pub line-repeats : (k : ℕ) → firstRepeat (labelsIn text) (length fields) 0 ≡ suc k → length numbers + k + 1 ≡ repeatedLine text
+  pub line-repeats : (k : ℕ) → firstRepeat (labelsIn text) (length fields) 0 ≡ suc k
+      → length numbers + k + 1 ≡ repeatedLine text
   unfolding repeatedLine
   line-repeats k e = rw (e, eqb·suc-zero k) (omega arith)
 

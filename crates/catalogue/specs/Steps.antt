@@ -1,17 +1,20 @@
--- What single steps of the code ask and give. No promise of an entry point mentions this; nothing here has to be believed.
+-- What single steps of the code ask and give. No promise of an entry point mentions this: it need not be believed.
 use Prim.Native.Nat.{ℕ, zero, suc, _+_, _-_, _≤_, _<_}
 use mathlib.Core.Path.{_≡_}
 use mathlib.Core.Bool.{true}
-use mathlib.Core.List.{List}
-use lib.ListN.{length, take, drop}
-use Rattle.text.specs.declared.Writing.{Writing}
-use Rattle.catalogue.specs.Catalogue.{numbers, fields, isEnded, behindLine, roomFor, areaAfter}
+use mathlib.Core.List.{List, []}
+use lib.ListN.{length, getD, take, drop}
+use Rattle.catalogue.specs.Catalogue.{numbers, fields, keys, isEnded, behindLine, stringsIn}
 use Rattle.catalogue.specs.declared.Key.{Key}
 use Rattle.catalogue.specs.declared.Span.{Span}
 
 -- How many lines a catalogue has.
 abbrev pub lines : ℕ
 lines = length numbers + length fields
+
+-- The string of line i, counted from 0.
+abbrev pub stringIn : (text : List ℕ) (i : ℕ) → List ℕ
+stringIn text i = getD (stringsIn keys text) i []
 
 -- Four bytes of which the first hold a key.
 pub record HoldsKey (key : List ℕ) (held : Key) : Type 0 where
@@ -34,8 +37,3 @@ pub record SpanOf (text bytes : List ℕ) (span : Span) : Type 0 where
   pub order : span .from ≤ span .to
   pub inside : span .to ≤ length text
   pub holds : take (span .to - span .from) (drop (span .from) text) ≡ bytes
-
--- Bytes are written into the front of an area if they fit.
-pub record Fitted (bytes area : List ℕ) (w : Writing) (area′ : List ℕ) : Type 0 where
-  pub answers : w ≡ roomFor bytes (length area)
-  pub fills : area′ ≡ areaAfter w bytes area

@@ -1,37 +1,25 @@
-// A catalogue of strings above the planner: it turns an answer or a field into a sentence of the chosen language.
+// A catalogue of strings, line by line under fixed keys, and the verdict on it.
 ghost use mathlib.Core.Path.{_≡_};
-ghost use mathlib.Core.Bool.{true, cond};
 ghost use mathlib.Core.List.{[]};
-ghost use Prim.Native.Nat.{suc, _+_, _≤_, _<_};
-ghost use lib.Dec.{eqb};
+ghost use Prim.Native.Nat.{_+_, _≤_, _<_};
 ghost use lib.ListN.{length, getD, drop, take};
 ghost use Rattle.lists.specs.Lists.{firstPlace};
 ghost use Rattle.table.specs.Table.{refuse};
-ghost use Rattle.text.specs.Text.{starts};
-ghost use Rattle.catalogue.specs.Catalogue.{keyOf, numbers, fields, keys, firstLine, stringRefusal, lineRefusal, linesVerdict, stringsIn, labelsIn, same, among, repeatedLine, verdictOn, spoken, named, SentencePut, LabelPut};
-ghost use Rattle.catalogue.specs.Steps.{lines, HoldsKey, linesOn, Ended, SpanOf, Fitted};
+ghost use Rattle.catalogue.specs.Catalogue.{keyOf, numbers, fields, keys, firstLine, stringRefusal, lineRefusal};
+ghost use Rattle.catalogue.specs.Catalogue.{linesVerdict, labelsIn, same, among, repeatedLine, verdictOn};
+ghost use Rattle.catalogue.specs.Steps.{lines, stringIn, HoldsKey, linesOn, Ended, SpanOf};
 use lists::first_place;
-use planner::Answer;
 use ring::Slot;
 use table::Refusal;
 use table::Verdict;
-use text::Writing;
 use text::key_at;
-use text::not_written;
-use text::put_bytes;
-use text::put_item;
-use text::put_numeral;
-use text::width_of;
 
 // How many answers have a string, how many fields have a label, and how many lines that makes.
-const ANSWERS: usize = 18;
+pub const ANSWERS: usize = 18;
 
-const FIELDS: usize = 6;
+pub const FIELDS: usize = 6;
 
 const LINES: usize = 24;
-
-// The refusal of a number or a field that has no string.
-const NO_STRING: u16 = 33;
 
 // The numbers of the answers that have a string, in the order of their lines.
 const NUMBERS: [u16; 18] = [0, 1, 2, 3, 4, 5, 6, 7, 8, 9, 12, 20, 21, 22, 30, 31, 32, 33];
@@ -197,9 +185,9 @@ fn same_bytes(a: &[u8], b: &[u8]) -> bool
 }
 
 // Where the string of line i begins and ends, in a text whose lines are all right.
-fn string_of(text: &[u8], i: usize) -> Span
+pub fn string_of(text: &[u8], i: usize) -> Span
     requires { ⌜ (linesVerdict keys 0 (now text) ≡ Verdict.Good) × (i < lines) ⌝ }
-    ensures { λ r. ⌜ SpanOf (now (text .entry)) (getD (stringsIn keys (now (text .entry))) i []) r ⌝ }
+    ensures { λ r. ⌜ SpanOf (now (text .entry)) (stringIn (now (text .entry)) i) r ⌝ }
 {
     let at = line_start(text, i);
     let key = line_key(i);
@@ -212,7 +200,7 @@ fn string_of(text: &[u8], i: usize) -> Span
 // Whether the string of line i is that of line k too.
 fn same_string(text: &[u8], i: usize, k: usize) -> bool
     requires { ⌜ (linesVerdict keys 0 (now text) ≡ Verdict.Good) × (i < lines) × (k < lines) ⌝ }
-    ensures { λ r. ⌜ r ≡ same (getD (stringsIn keys (now (text .entry))) i []) (getD (stringsIn keys (now (text .entry))) k []) ⌝ }
+    ensures { λ r. ⌜ r ≡ same (stringIn (now (text .entry)) i) (stringIn (now (text .entry)) k) ⌝ }
 {
     let a = string_of(text, i);
     let b = string_of(text, k);
@@ -271,126 +259,9 @@ pub fn judge(text: &[u8]) -> Verdict
 }
 
 // The place of a number among those that have a string; their count where it has none.
-fn place_of(number: u16) -> usize
+pub fn place_of(number: u16) -> usize
     ensures { λ r. ⌜ r ≡ firstPlace number numbers ⌝ }
 {
     let numbers = NUMBERS;
     first_place(&numbers, number)
-}
-
-// What a sentence shows of a row or a slot: 0 for acceptance.
-fn shown(number: u16, value: u16) -> u16
-    ensures { λ r. ⌜ r ≡ cond (eqb number 0) 0 value ⌝ }
-{
-    if number == 0 {
-        return 0;
-    }
-    value
-}
-
-// Writes a string, a space, the row, a space and the slot into an area that is long enough.
-fn put_spoken(string: &[u8], row: u16, slot: u16, area: &mut [u8]) -> Writing
-    ensures { λ r. ⌜ Fitted (spoken (now (string .entry)) row slot) (now (area .entry)) r (now (area .exit)) ⌝ }
-{
-    let length = string.len() + width_of(row as u32) + width_of(slot as u32) + 2;
-    if area.len() < length {
-        return not_written(22);
-    }
-    let second = put_bytes(area, 0, string);
-    let third = put_item(area, second, b" ", row, 32);
-    put_numeral(area, third, slot);
-    Writing::Written(length)
-}
-
-// Writes a string into an area that is long enough.
-fn put_string(string: &[u8], area: &mut [u8]) -> Writing
-    ensures { λ r. ⌜ Fitted (now (string .entry)) (now (area .entry)) r (now (area .exit)) ⌝ }
-{
-    if area.len() < string.len() {
-        return not_written(22);
-    }
-    put_bytes(area, 0, string);
-    Writing::Written(string.len())
-}
-
-// Writes the sentence of an answer, by a text that is a catalogue.
-fn put_sentence(text: &[u8], number: u16, row: u16, slot: u16, area: &mut [u8]) -> Writing
-    requires { ⌜ verdictOn (now text) ≡ Verdict.Good ⌝ }
-    ensures { λ r. ⌜ SentencePut (now (text .entry)) number row slot (now (area .entry)) r (now (area .exit)) ⌝ }
-{
-    let place = place_of(number);
-    if ANSWERS <= place {
-        return not_written(NO_STRING);
-    }
-    let span = string_of(text, place);
-    let from = span.from;
-    let to = span.to;
-    put_spoken(
-        &text[from..to],
-        shown(number, row),
-        shown(number, slot),
-        area,
-    )
-}
-
-// Writes the label of a field, by a text that is a catalogue.
-fn put_label(text: &[u8], field: u16, area: &mut [u8]) -> Writing
-    requires { ⌜ verdictOn (now text) ≡ Verdict.Good ⌝ }
-    ensures { λ r. ⌜ LabelPut (now (text .entry)) field (now (area .entry)) r (now (area .exit)) ⌝ }
-{
-    if field == 0 {
-        return not_written(NO_STRING);
-    }
-    if FIELDS < field as usize {
-        return not_written(NO_STRING);
-    }
-    let span = string_of(text, ANSWERS + field as usize - 1);
-    let from = span.from;
-    let to = span.to;
-    put_string(&text[from..to], area)
-}
-
-// Writes the sentence of an answer's number, row and slot: the catalogue is judged, then the number has to have a string, then the area room.
-pub fn sentence(text: &[u8], number: u16, row: u16, slot: u16, area: &mut [u8]) -> Writing
-    ensures { λ r. ⌜ SentencePut (now (text .entry)) number row slot (now (area .entry)) r (now (area .exit)) ⌝ }
-{
-    let verdict = judge(text);
-    match verdict {
-        Verdict::Refused(r) => Writing::Refused(r),
-        Verdict::Good => put_sentence(text, number, row, slot, area),
-    }
-}
-
-// Writes the label of a field: the catalogue is judged, then the field has to have a label, then the area room.
-pub fn label(text: &[u8], field: u16, area: &mut [u8]) -> Writing
-    ensures { λ r. ⌜ LabelPut (now (text .entry)) field (now (area .entry)) r (now (area .exit)) ⌝ }
-{
-    let verdict = judge(text);
-    match verdict {
-        Verdict::Refused(r) => Writing::Refused(r),
-        Verdict::Good => put_label(text, field, area),
-    }
-}
-
-// What an answer of the planner names.
-fn named_by(answer: Answer) -> Refusal
-    ensures { λ r. ⌜ r ≡ named answer ⌝ }
-{
-    match answer {
-        Answer::Accepted(_) => Refusal {
-            number: 0,
-            row: 0,
-            slot: Slot(0),
-        },
-        Answer::Refused(r) => r,
-    }
-}
-
-// Writes the sentence of an answer of the planner.
-pub fn sentence_of(text: &[u8], answer: Answer, area: &mut [u8]) -> Writing
-    ensures { λ r. ⌜ SentencePut (now (text .entry)) (named answer .number) (named answer .row) (named answer .slot .0) (now (area .entry)) r (now (area .exit)) ⌝ }
-{
-    let r = named_by(answer);
-    let slot = r.slot;
-    sentence(text, r.number, r.row, slot.0, area)
 }

@@ -19,8 +19,8 @@ use Rattle.area.specs.Area.{areaOf, nodesIn, rowsIn}
 use Rattle.area.proofs.Areas.{nodes-in-area, rows-in-area}
 use Rattle.edit.specs.Edit.{Edit, Opened, Edited, afterEdits, rowsBy}
 use Rattle.edit.proofs.Promises.{edits-make-rows}
-use Rattle.catalogue.specs.Catalogue as Catalogue
-use Rattle.catalogue.specs.Catalogue.{Put}
+use Rattle.sentence.specs.Sentence as Sentence
+use Rattle.sentence.specs.Sentence.{Put}
 use Rattle.flat.specs.declared.PlanAnswer.{PlanAnswer}
 use Rattle.flat.specs.declared.EditAnswer.{EditAnswer}
 use Rattle.flat.specs.declared.ReadAnswer.{ReadAnswer}
@@ -54,7 +54,7 @@ flat-edited d e = record { answers = e ∙ ap flatVerdict (d .answers); fills = 
 
 pub flat-put : {text : List ℕ} {found : Bool} {bytes area area′ : List ℕ} {w : Writing} {r : SentenceAnswer} → Put text found bytes area w area′ → r ≡ flatSentence w → PanelPut text found bytes area r area′
 flat-put {text} {found} {bytes} {area} d e =
-    record { answers = e ∙ ap flatSentence (d .answers); fills = d .fills ∙ ap (λ (w : Writing). Catalogue.areaAfter w bytes area) (d .answers) }
+    record { answers = e ∙ ap flatSentence (d .answers); fills = d .fills ∙ ap (λ (w : Writing). Sentence.areaAfter w bytes area) (d .answers) }
 
 -- one call has one outcome: the same numbers, the same plan and the same arrivals
 module _ (n : ℕ) (rows : List Row) {p a p₁ a₁ p₂ a₂ : List ℕ} {s₁ s₂ : PlanAnswer} (d₁ : PanelPlanned n rows p a s₁ p₁ a₁) (d₂ : PanelPlanned n rows p a s₂ p₂ a₂) where

@@ -26,9 +26,10 @@ use Rattle.area.specs.Area as Area
 use Rattle.area.specs.Area.{most-links, countIn}
 use Rattle.edit.specs.declared.Entry.{Entry}
 use Rattle.edit.specs.Edit.{aboutRow, Edit, Add, Change, Remove, firstOf, sizeRefusal, numberRefusal, refusalOf, editRefusal, verdictBy, entryOf}
-use Rattle.catalogue.specs.Catalogue as Catalogue
 use Rattle.catalogue.specs.Catalogue.{isIn, verdictOn}
-use Rattle.catalogue.proofs.Told.{Told, ToldVerdict, ToldWriting, either, verdict-told, put-told}
+use Rattle.catalogue.proofs.Told.{Told, ToldVerdict, either, verdict-told}
+use Rattle.sentence.specs.Sentence as Sentence
+use Rattle.sentence.proofs.Told.{ToldWriting, put-told}
 use Rattle.flat.specs.declared.PlanAnswer.{PlanAnswer}
 use Rattle.flat.specs.declared.ReadAnswer.{ReadAnswer}
 use Rattle.flat.specs.declared.WriteAnswer.{WriteAnswer}
@@ -170,4 +171,4 @@ judging-has-sentence text = flat-verdict-told (verdictOn text) (verdict-told tex
 -- Whatever writing a sentence or a label answers has a sentence.
 pub put-has-sentence : {text : List ℕ} {found : Bool} {bytes area area′ : List ℕ} {r : SentenceAnswer} → PanelPut text found bytes area r area′ → Told (r .number)
 put-has-sentence {text} {found} {bytes} {area} d =
-    rw (d .answers) (flat-sentence-told (Catalogue.afterVerdict (verdictOn text) found bytes (length area)) (put-told text found bytes (length area)))
+    rw (d .answers) (flat-sentence-told (Sentence.afterVerdict (verdictOn text) found bytes (length area)) (put-told text found bytes (length area)))

@@ -12,8 +12,9 @@ use Rattle.text.specs.Text.{readingOf, rowsRead, writingOf}
 use Rattle.area.specs.Area.{areaOf}
 use Rattle.edit.specs.Edit as Edit
 use Rattle.edit.specs.Edit.{Edit, sizeRefusal, editRefusal, aboutRow, verdictBy}
-use Rattle.catalogue.specs.Catalogue as Catalogue
-use Rattle.catalogue.specs.Catalogue.{numbers, fields, verdictOn, isIn, sentence, labelOf}
+use Rattle.catalogue.specs.Catalogue.{numbers, fields, verdictOn, isIn}
+use Rattle.sentence.specs.Sentence as Sentence
+use Rattle.sentence.specs.Sentence.{sentence, labelOf}
 use Rattle.flat.specs.Flat.{flatOf, flatReading, flatWriting, flatVerdict, flatSentence}
 use Rattle.flat.specs.declared.PlanAnswer.{PlanAnswer}
 use Rattle.flat.specs.declared.EditAnswer.{EditAnswer}
@@ -49,8 +50,8 @@ pub record PanelEdited (s : List ℕ) (e : Edit) (r : EditAnswer) (s′ : List �
 
 -- The full outcome of writing bytes of a catalogue from the panel: the flattened writing, and every byte of the lent area.
 pub record PanelPut (text : List ℕ) (found : Bool) (bytes area : List ℕ) (r : SentenceAnswer) (area′ : List ℕ) : Type 0 where
-  pub answers : r ≡ flatSentence (Catalogue.afterVerdict (verdictOn text) found bytes (length area))
-  pub fills : area′ ≡ Catalogue.areaAfter (Catalogue.afterVerdict (verdictOn text) found bytes (length area)) bytes area
+  pub answers : r ≡ flatSentence (Sentence.afterVerdict (verdictOn text) found bytes (length area))
+  pub fills : area′ ≡ Sentence.areaAfter (Sentence.afterVerdict (verdictOn text) found bytes (length area)) bytes area
 
 -- That of a sentence, and of a label.
 abbrev pub PanelSentence : (text : List ℕ) (number row slot : ℕ) (area : List ℕ) → SentenceAnswer → List ℕ → Type 0

@@ -153,7 +153,7 @@ pub extern "C" fn garboardle_sentence(
 ) -> SentenceAnswer
     ensures { λ r. ⌜ PanelSentence (now (catalogue .entry)) number row slot (now (area .entry)) r (now (area .exit)) ⌝ }
 {
-    let writing = catalogue::sentence(catalogue, number, row, slot, area);
+    let writing = sentence::sentence(catalogue, number, row, slot, area);
     flat_sentence(writing)
 }
 
@@ -162,6 +162,6 @@ pub extern "C" fn garboardle_sentence(
 pub extern "C" fn garboardle_label(catalogue: &[u8], field: u16, area: &mut [u8]) -> SentenceAnswer
     ensures { λ r. ⌜ PanelLabel (now (catalogue .entry)) field (now (area .entry)) r (now (area .exit)) ⌝ }
 {
-    let writing = catalogue::label(catalogue, field, area);
+    let writing = sentence::label(catalogue, field, area);
     flat_sentence(writing)
 }

@@ -21,7 +21,8 @@ repeated-line-requires c κs = sym (c .before .before .judge-lines .ensures) ∙
 returns : tie.Need-returns
 returns c =
     let text = c .before .before .before .before .before .before .args .text .now in
-    all-differ text (sym (c .before .before .before .before .judge-lines .ensures) ∙ c .before .before .enum-told .given .1) _ (c .before .repeated-line .ensures) (c .if1 .taken)
+    let good = sym (c .before .before .before .before .judge-lines .ensures) ∙ c .before .before .enum-told .given .1 in
+    all-differ text good _ (c .before .repeated-line .ensures) (c .if1 .taken)
 
 refused-requires : tie.Need-refused-requires
 refused-requires c κs = search needs
@@ -34,7 +35,9 @@ returns-2 c =
 returns-3 : tie.Need-returns-3
 returns-3 c =
     let text = c .before .before .before .before .before .before .before .args .text .now in
-    c .refused .ensures ∙ one-repeats text (sym (c .before .before .before .before .before .judge-lines .ensures) ∙ c .before .before .before .enum-told .given .1) _ (c .before .before .repeated-line .ensures) (c .before .if1 .left)
+    let s = c .before .before .before in
+    let good = sym (s .before .before .judge-lines .ensures) ∙ s .enum-told .given .1 in
+    c .refused .ensures ∙ one-repeats text good _ (c .before .before .repeated-line .ensures) (c .before .if1 .left)
 
 pub judge-spec : {M : Type 1} → statement M
 judge-spec =

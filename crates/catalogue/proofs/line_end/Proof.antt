@@ -11,7 +11,8 @@ use Rattle.catalogue.proofs.line_end.Statement.{statement}
 use Rattle.catalogue.proofs.line_end.Tie as tie
 
 abbrev Inv-loop : tie.InvT-loop
-Inv-loop text at end₀ end = (end ≤ length text) × (at + length (firstLine (drop at text)) ≡ end + length (firstLine (drop end text)))
+Inv-loop text at end₀ end =
+    (end ≤ length text) × (at + length (firstLine (drop at text)) ≡ end + length (firstLine (drop end text)))
 
 abbrev μ-loop : tie.MeasureT-loop
 μ-loop text at end₀ end = length text - end

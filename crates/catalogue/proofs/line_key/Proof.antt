@@ -12,7 +12,10 @@ key-of-requires : tie.Need-key-of-requires
 key-of-requires c κs = rw (c .number-at .ensures) (number-small (c .before .before .args .i))
 
 returns : tie.Need-returns
-returns c = holds-same (rw (c .before .number-at .ensures) (answer-key (c .before .before .before .args .i) (c .before .before .if1 .taken))) (c .key-of .ensures)
+returns c =
+    let s = c .before .before in
+    let key = answer-key (s .before .args .i) (s .if1 .taken) in
+    holds-same (rw (c .before .number-at .ensures) key) (c .key-of .ensures)
 
 add-key-of : tie.Need-add-key-of
 add-key-of c = search needs
@@ -24,7 +27,9 @@ key-of-requires-2 : tie.Need-key-of-requires-2
 key-of-requires-2 c κs = search needs
 
 returns-2 : tie.Need-returns-2
-returns-2 c = holds-same (field-key (c .before .before .args .i) (c .before .if1 .left) (c .before .before .pre)) (c .key-of2 .ensures)
+returns-2 c =
+    let s = c .before .before in
+    holds-same (field-key (s .args .i) (c .before .if1 .left) (s .pre)) (c .key-of2 .ensures)
 
 pub line-key-spec : {M : Type 1} → statement M
 line-key-spec =

@@ -27,7 +27,8 @@ add-at : tie.Need-add-at Inv-loop μ-loop
 add-at c =
     let l = c .before .before .loop in
     let text = c .before .before .before .before .args .text .now in
-    omega (arith, line-passed text (l .at) _ (l .k) (l .inv .1) (l .inv .2) (c .before .before .before .before .pre (l .k) (omega arith)) (c .line-end .ensures) .0)
+    let ended = c .before .before .before .before .pre (l .k) (omega arith) in
+    omega (arith, line-passed text (l .at) _ (l .k) (l .inv .1) (l .inv .2) ended (c .line-end .ensures) .0)
 
 add-k : tie.Need-add-k Inv-loop μ-loop
 add-k c = search needs
@@ -39,7 +40,8 @@ loop-again : tie.Need-loop-again Inv-loop μ-loop
 loop-again c =
     let l = c .before .before .loop in
     let text = c .before .before .before .before .args .text .now in
-    let next = line-passed text (l .at) _ (l .k) (l .inv .1) (l .inv .2) (c .before .before .before .before .pre (l .k) (omega arith)) (c .line-end .ensures) in
+    let ended = c .before .before .before .before .pre (l .k) (omega arith) in
+    let next = line-passed text (l .at) _ (l .k) (l .inv .1) (l .inv .2) ended (c .line-end .ensures) in
     (omega arith, next .0, next .1)
 
 returns : tie.Need-returns Inv-loop μ-loop

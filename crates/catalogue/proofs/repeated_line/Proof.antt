@@ -1,4 +1,5 @@
--- `catalogue::repeated_line` meets its contract: as long as no label passed repeats one, the first that does is that of the rest.
+-- `catalogue::repeated_line` meets its contract: as long as no label passed repeats one, the first that does is the
+-- first of the rest.
 -- Assumes nothing.
 use mathlib.Core.Path.{_≡_, _∙_, sym, refl}
 use Prim.Native.Nat.{_-_, _≤_}
@@ -11,7 +12,9 @@ use Rattle.catalogue.proofs.repeated_line.Statement.{statement}
 use Rattle.catalogue.proofs.repeated_line.Tie as tie
 
 abbrev Inv-loop : tie.InvT-loop
-Inv-loop text k₀ k = (k ≤ length fields) × (firstRepeat (labelsIn text) (length fields) 0 ≡ firstRepeat (labelsIn text) (length fields - k) k)
+Inv-loop text k₀ k =
+    let labels = labelsIn text in
+    (k ≤ length fields) × (firstRepeat labels (length fields) 0 ≡ firstRepeat labels (length fields - k) k)
 
 abbrev μ-loop : tie.MeasureT-loop
 μ-loop text k₀ k = length fields - k
@@ -35,7 +38,8 @@ returns : tie.Need-returns Inv-loop μ-loop
 returns c =
     let l = c .before .before .before .loop in
     let text = c .before .before .before .before .before .args .text .now in
-    line-repeats text (l .k) (l .inv .1 ∙ repeat-here (labelsIn text) (length fields) (l .k) (omega arith) (sym (c .before .repeats .ensures) ∙ c .if1 .taken))
+    let repeats = sym (c .before .repeats .ensures) ∙ c .if1 .taken in
+    line-repeats text (l .k) (l .inv .1 ∙ repeat-here (labelsIn text) (length fields) (l .k) (omega arith) repeats)
 
 add-k : tie.Need-add-k Inv-loop μ-loop
 add-k c = search needs
@@ -47,7 +51,8 @@ loop-again : tie.Need-loop-again Inv-loop μ-loop
 loop-again c =
     let l = c .before .before .before .loop in
     let text = c .before .before .before .before .before .args .text .now in
-    (omega arith, l .inv .1 ∙ repeat-next (labelsIn text) (length fields) (l .k) (omega arith) (sym (c .before .repeats .ensures) ∙ c .if1 .left))
+    let new = sym (c .before .repeats .ensures) ∙ c .if1 .left in
+    (omega arith, l .inv .1 ∙ repeat-next (labelsIn text) (length fields) (l .k) (omega arith) new)
 
 returns-2 : tie.Need-returns-2 Inv-loop μ-loop
 returns-2 c =

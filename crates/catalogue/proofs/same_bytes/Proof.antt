@@ -31,7 +31,8 @@ shared-slice-read-if2-2 c = search needs
 returns-2 : tie.Need-returns-2 Inv-loop μ-loop
 returns-2 c =
     let l = c .before .before .before .before .loop in
-    sym (l .inv .2 ∙ same-differ (c .before .before .before .before .before .before .args .a .now) (c .before .before .before .before .before .before .args .b .now) (l .i) (l .inv .1) (omega arith) (c .if2 .taken))
+    let args = c .before .before .before .before .before .before .args in
+    sym (l .inv .2 ∙ same-differ (args .a .now) (args .b .now) (l .i) (l .inv .1) (omega arith) (c .if2 .taken))
 
 add-i : tie.Need-add-i Inv-loop μ-loop
 add-i c = search needs
@@ -42,12 +43,15 @@ loop-less c = search needs
 loop-again : tie.Need-loop-again Inv-loop μ-loop
 loop-again c =
     let l = c .before .before .before .before .loop in
-    (omega arith, l .inv .1, l .inv .2 ∙ same-next (c .before .before .before .before .before .before .args .a .now) (c .before .before .before .before .before .before .args .b .now) (l .i) (l .inv .1) (omega arith) (c .if2 .left))
+    let args = c .before .before .before .before .before .before .args in
+    let next = same-next (args .a .now) (args .b .now) (l .i) (l .inv .1) (omega arith) (c .if2 .left) in
+    (omega arith, l .inv .1, l .inv .2 ∙ next)
 
 returns-3 : tie.Need-returns-3 Inv-loop μ-loop
 returns-3 c =
     let l = c .before .loop in
-    sym (l .inv .2 ∙ same-end (c .before .before .before .args .a .now) (c .before .before .before .args .b .now) (l .i) (l .inv .1) (omega arith))
+    let args = c .before .before .before .args in
+    sym (l .inv .2 ∙ same-end (args .a .now) (args .b .now) (l .i) (l .inv .1) (omega arith))
 
 pub same-bytes-spec : {M : Type 1} → statement M
 same-bytes-spec =

@@ -33,7 +33,9 @@ same-bytes-requires : tie.Need-same-bytes-requires
 same-bytes-requires c κs = search needs
 
 returns : tie.Need-returns
-returns c = c .same-bytes .ensures ∙ rw (c .before .before .before .before .string-of .ensures .holds, c .before .before .before .string-of2 .ensures .holds)
+returns c =
+    let s = c .before .before .before in
+    c .same-bytes .ensures ∙ rw (s .before .string-of .ensures .holds, s .string-of2 .ensures .holds)
 
 pub same-string-spec : {M : Type 1} → statement M
 same-string-spec =

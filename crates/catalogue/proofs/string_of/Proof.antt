@@ -1,9 +1,10 @@
 -- `catalogue::string_of` meets its contract: the string of a right line stands between its key and its line feed.
 -- Assumes nothing.
 use mathlib.Core.List.{[]}
+use Prim.Native.Nat.{_<_}
 use native.Mathlib.Omega.{arith}
 use borrow.Author.Needs.{needs}
-use lib.ListN.{getD}
+use lib.ListN.{length, getD}
 use Rattle.catalogue.specs.Catalogue.{keys}
 use Rattle.catalogue.proofs.Keys.{keys-all, key-plain}
 use Rattle.catalogue.proofs.Strings.{each-good, all-ended, string-at, string-span}
@@ -24,11 +25,16 @@ line-end-requires c κs = search needs
 
 returns : tie.Need-returns
 returns c =
-    let args = c .before .before .before .before .before .args in
-    let text = args .text .now in
-    let good = each-good keys 0 text (args .i) (c .before .before .before .before .before .pre .0) (omega (arith, keys-all)) in
+    let s = c .before .before .before .before .before in
+    let i = s .args .i in
+    let text = s .args .text .now in
+    let inside : i < length keys = omega (arith, keys-all) in
+    let good = each-good keys 0 text i (s .pre .0) inside in
     let start = c .before .before .before .line-start .ensures in
-    rw (string-at keys text (args .i) (omega (arith, keys-all))) (string-span (getD keys (args .i) []) text _ _ _ _ (c .before .before .line-key .ensures) (key-plain (args .i) (omega arith)) (start .0) (start .1) good (c .line-end .ensures))
+    let key = c .before .before .line-key .ensures in
+    let plain = key-plain i (omega arith) in
+    rw (string-at keys text i inside)
+    (string-span (getD keys i []) text _ _ _ _ key plain (start .0) (start .1) good (c .line-end .ensures))
 
 pub string-of-spec : {M : Type 1} → statement M
 string-of-spec =

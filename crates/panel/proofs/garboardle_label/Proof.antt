@@ -1,4 +1,4 @@
--- `panel::garboardle_label` meets its contract: the outcome of `catalogue::label`, flattened.
+-- `panel::garboardle_label` meets its contract: the outcome of `sentence::label`, flattened.
 -- Assumes nothing.
 use Rattle.panel.proofs.Outcome.{flat-put}
 use borrow.Author.Needs.{needs}

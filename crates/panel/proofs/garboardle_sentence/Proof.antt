@@ -1,4 +1,4 @@
--- `panel::garboardle_sentence` meets its contract: the outcome of `catalogue::sentence`, flattened.
+-- `panel::garboardle_sentence` meets its contract: the outcome of `sentence::sentence`, flattened.
 -- Assumes nothing.
 use Rattle.panel.proofs.Outcome.{flat-put}
 use borrow.Author.Needs.{needs}

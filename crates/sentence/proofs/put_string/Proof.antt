@@ -1,11 +1,11 @@
--- `catalogue::put_string` meets its contract: 22 for room, and else the string in the front of the area.
+-- `sentence::put_string` meets its contract: 22 for room, and else the string in the front of the area.
 -- Assumes nothing.
 use mathlib.Core.Path.{refl}
 use native.Mathlib.Omega.{arith}
 use borrow.Author.Needs.{needs}
-use Rattle.catalogue.proofs.Putting.{no-room, put-whole}
-use Rattle.catalogue.proofs.put_string.Statement.{statement}
-use Rattle.catalogue.proofs.put_string.Tie as tie
+use Rattle.sentence.proofs.Putting.{no-room, put-whole}
+use Rattle.sentence.proofs.put_string.Statement.{statement}
+use Rattle.sentence.proofs.put_string.Tie as tie
 
 not-written-requires : tie.Need-not-written-requires
 not-written-requires c κs = search needs

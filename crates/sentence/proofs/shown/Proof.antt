@@ -1,8 +1,8 @@
--- `catalogue::shown` meets its contract.
+-- `sentence::shown` meets its contract.
 -- Assumes nothing.
 use borrow.Author.Tests.{eq-eqb, ne-eqb}
-use Rattle.catalogue.proofs.shown.Statement.{statement}
-use Rattle.catalogue.proofs.shown.Tie as tie
+use Rattle.sentence.proofs.shown.Statement.{statement}
+use Rattle.sentence.proofs.shown.Tie as tie
 
 returns : tie.Need-returns
 returns c = rw (eq-eqb _ 0 (c .if1 .taken))

@@ -1,9 +1,9 @@
--- `catalogue::sentence_of` meets its contract: what the answer names is said.
+-- `sentence::sentence_of` meets its contract: what the answer names is said.
 -- Assumes nothing.
 use mathlib.Core.Path.{sym}
 use borrow.Author.Needs.{needs}
-use Rattle.catalogue.proofs.sentence_of.Statement.{statement}
-use Rattle.catalogue.proofs.sentence_of.Tie as tie
+use Rattle.sentence.proofs.sentence_of.Statement.{statement}
+use Rattle.sentence.proofs.sentence_of.Tie as tie
 
 named-by-requires : tie.Need-named-by-requires
 named-by-requires c κs = search needs
@@ -15,7 +15,9 @@ same-length : tie.Need-same-length
 same-length c = search needs
 
 returns : tie.Need-returns
-returns c = rw (sym (c .before .before .before .before .before .named-by .ensures)) (c .before .before .sentence .ensures)
+returns c =
+    let named = c .before .before .before .before .before .named-by .ensures in
+    rw (sym named) (c .before .before .sentence .ensures)
 
 pub sentence-of-spec : {M : Type 1} → statement M
 sentence-of-spec = tie.close (tie.spec named-by-requires sentence-requires same-length returns)

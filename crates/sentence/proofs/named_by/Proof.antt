@@ -1,10 +1,10 @@
--- `catalogue::named_by` meets its contract.
+-- `sentence::named_by` meets its contract.
 -- Assumes nothing.
 use mathlib.Core.Path.{ap, sym}
 use borrow.Author.Needs.{needs}
-use Rattle.catalogue.specs.Catalogue.{named}
-use Rattle.catalogue.proofs.named_by.Statement.{statement}
-use Rattle.catalogue.proofs.named_by.Tie as tie
+use Rattle.sentence.specs.Sentence.{named}
+use Rattle.sentence.proofs.named_by.Statement.{statement}
+use Rattle.sentence.proofs.named_by.Tie as tie
 
 enum-told : tie.Need-enum-told
 enum-told c = search needs

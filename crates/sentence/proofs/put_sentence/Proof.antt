@@ -1,12 +1,12 @@
--- `catalogue::put_sentence` meets its contract: 33 for a number without a string, and else its string with the row and the slot.
+-- `sentence::put_sentence` meets its contract: 33 for a number without a string, and else its string with row and slot.
 -- Assumes nothing.
 use native.Mathlib.Omega.{arith}
 use borrow.Author.Needs.{needs}
 use Rattle.catalogue.specs.Catalogue.{numbers}
 use Rattle.catalogue.proofs.Strings.{good-lines}
-use Rattle.catalogue.proofs.Putting.{in-list, not-in-list, sentence-spoken, without-string, with-string}
-use Rattle.catalogue.proofs.put_sentence.Statement.{statement}
-use Rattle.catalogue.proofs.put_sentence.Tie as tie
+use Rattle.sentence.proofs.Putting.{in-list, not-in-list, sentence-spoken, without-string, with-string}
+use Rattle.sentence.proofs.put_sentence.Statement.{statement}
+use Rattle.sentence.proofs.put_sentence.Tie as tie
 
 place-of-requires : tie.Need-place-of-requires
 place-of-requires c κs = search needs
@@ -16,8 +16,10 @@ not-written-requires c κs = search needs
 
 returns : tie.Need-returns
 returns c =
-    let a = c .before .before .before .before .before .args in
-    without-string (a .text .now) _ _ (a .area .now) (c .before .before .before .before .before .pre) (not-in-list (a .number) numbers (omega (arith, c .before .before .place-of .ensures))) (c .not-written .ensures)
+    let s = c .before .before .before .before .before in
+    let a = s .args in
+    let none = not-in-list (a .number) numbers (omega (arith, c .before .before .place-of .ensures)) in
+    without-string (a .text .now) _ _ (a .area .now) (s .pre) none (c .not-written .ensures)
 
 string-of-requires : tie.Need-string-of-requires
 string-of-requires c κs = (good-lines _ (c .before .before .before .before .pre), omega arith)
@@ -50,8 +52,12 @@ returns-2 c =
     let text = a .text .now in
     let place = c .before .before .before .before .before .before .before .before .before .place-of in
     let string = c .before .before .before .before .before .before .before .string-of .ensures .holds in
-    let said = sentence-spoken text (a .number) (a .row) (a .slot) (place .result) string (place .ensures) (c .before .before .before .before .before .shown .ensures) (c .before .before .before .before .shown2 .ensures) in
-    with-string text _ _ (a .area .now) (s .pre) (in-list (a .number) numbers (omega (arith, place .ensures))) said (c .before .before .put-spoken .ensures)
+    let row = c .before .before .before .before .before .shown .ensures in
+    let slot = c .before .before .before .before .shown2 .ensures in
+    let said =
+    sentence-spoken text (a .number) (a .row) (a .slot) (place .result) string (place .ensures) row slot in
+    let found = in-list (a .number) numbers (omega (arith, place .ensures)) in
+    with-string text _ _ (a .area .now) (s .pre) found said (c .before .before .put-spoken .ensures)
 
 pub put-sentence-spec : {M : Type 1} → statement M
 put-sentence-spec =

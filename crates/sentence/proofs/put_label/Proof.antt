@@ -1,13 +1,13 @@
--- `catalogue::put_label` meets its contract: 33 for a field that isn't there, and else the string of its line.
+-- `sentence::put_label` meets its contract: 33 for a field that isn't there, and else the string of its line.
 -- Assumes nothing.
 use mathlib.Core.Path.{_∙_}
 use Prim.Native.Nat.{_≤_}
 use native.Mathlib.Omega.{arith}
 use borrow.Author.Needs.{needs}
 use Rattle.catalogue.proofs.Strings.{good-lines}
-use Rattle.catalogue.proofs.Putting.{no-field, is-field, label-string, without-string, with-string}
-use Rattle.catalogue.proofs.put_label.Statement.{statement}
-use Rattle.catalogue.proofs.put_label.Tie as tie
+use Rattle.sentence.proofs.Putting.{no-field, is-field, label-string, without-string, with-string}
+use Rattle.sentence.proofs.put_label.Statement.{statement}
+use Rattle.sentence.proofs.put_label.Tie as tie
 
 not-written-requires : tie.Need-not-written-requires
 not-written-requires c κs = search needs
@@ -15,7 +15,9 @@ not-written-requires c κs = search needs
 returns : tie.Need-returns
 returns c =
     let a = c .before .before .before .before .args in
-    without-string (a .text .now) _ _ (a .area .now) (c .before .before .before .before .pre) (no-field (a .field) (λ l h. omega (arith, c .before .if1 .taken))) (c .not-written .ensures)
+    let good = c .before .before .before .before .pre in
+    let none = no-field (a .field) (λ l h. omega (arith, c .before .if1 .taken)) in
+    without-string (a .text .now) _ _ (a .area .now) good none (c .not-written .ensures)
 
 not-written-requires-2 : tie.Need-not-written-requires-2
 not-written-requires-2 c κs = search needs
@@ -23,7 +25,9 @@ not-written-requires-2 c κs = search needs
 returns-2 : tie.Need-returns-2
 returns-2 c =
     let a = c .before .before .before .before .before .args in
-    without-string (a .text .now) _ _ (a .area .now) (c .before .before .before .before .before .pre) (no-field (a .field) (λ l h. omega (arith, c .before .if2 .taken))) (c .not-written2 .ensures)
+    let good = c .before .before .before .before .before .pre in
+    let none = no-field (a .field) (λ l h. omega (arith, c .before .if2 .taken)) in
+    without-string (a .text .now) _ _ (a .area .now) good none (c .not-written2 .ensures)
 
 add-string-of : tie.Need-add-string-of
 add-string-of c = search needs
@@ -56,8 +60,10 @@ returns-3 c =
     let field = s .args .field in
     let some : 1 ≤ field = omega arith in
     let few : field ≤ 6 = omega arith in
-    let string = c .before .before .before .before .before .string-of .ensures .holds ∙ label-string text field some few in
-    with-string text _ _ (s .args .area .now) (s .pre) (is-field field some few) string (c .before .before .put-string .ensures)
+    let held = c .before .before .before .before .before .string-of .ensures .holds in
+    let string = held ∙ label-string text field some few in
+    let put = c .before .before .put-string .ensures in
+    with-string text _ _ (s .args .area .now) (s .pre) (is-field field some few) string put
 
 pub put-label-spec : {M : Type 1} → statement M
 put-label-spec =

@@ -1,10 +1,10 @@
--- `catalogue::sentence` meets its contract: a text that is no catalogue is refused as such.
+-- `sentence::sentence` meets its contract: a text that is no catalogue is refused as such.
 -- Assumes nothing.
 use mathlib.Core.Path.{_∙_, sym}
 use borrow.Author.Needs.{needs}
-use Rattle.catalogue.proofs.Putting.{not-a-catalogue}
-use Rattle.catalogue.proofs.sentence.Statement.{statement}
-use Rattle.catalogue.proofs.sentence.Tie as tie
+use Rattle.sentence.proofs.Putting.{not-a-catalogue}
+use Rattle.sentence.proofs.sentence.Statement.{statement}
+use Rattle.sentence.proofs.sentence.Tie as tie
 
 judge-requires : tie.Need-judge-requires
 judge-requires c κs = search needs

@@ -27,19 +27,25 @@ use Rattle.text.specs.declared.Writing.{Writing}
 use Rattle.text.specs.declared.Writing.the-variants.{Written, Refused as NotWritten}
 use Rattle.text.proofs.Numeral.{numeral-length}
 use Rattle.text.proofs.Pasting.{two-fits, three-fits, three-placed}
-use Rattle.catalogue.specs.Catalogue.{numbers, fields, keys, stringsIn, verdictOn, isIn, spoken, sentence, labelOf, roomFor, afterVerdict, areaAfter, Put}
-use Rattle.catalogue.specs.Steps.{Fitted}
+use Rattle.catalogue.specs.Catalogue.{numbers, fields, keys, stringsIn, verdictOn, isIn}
+use Rattle.sentence.specs.Sentence.{spoken, sentence, labelOf, roomFor, afterVerdict, areaAfter, Put}
+use Rattle.sentence.specs.Steps.{Fitted}
 use Rattle.catalogue.proofs.Keys.{field-at}
 use Rattle.catalogue.proofs.Strings.{label-at}
 
 module _ (bytes area : List ℕ) where
   pub no-room : {w : Writing} → w ≡ NotWritten (refuse 22 0 0) → length area < length bytes → Fitted bytes area w area
   unfolding roomFor areaAfter
   no-room e h = record { answers = rw (e, lt-ltb (length area) (length bytes) h); fills = rw e }
 
-  pub put-whole : {n : ℕ} {area′ : List ℕ} → n ≡ length bytes → length bytes ≤ length area → area′ ≡ pasted area 0 bytes → Fitted bytes area (Written n) area′
+  pub put-whole : {n : ℕ} {area′ : List ℕ} → n ≡ length bytes → length bytes ≤ length area
+      → area′ ≡ pasted area 0 bytes → Fitted bytes area (Written n) area′
   unfolding roomFor areaAfter pasted
-  put-whole e h so = record { answers = rw (e, le-ltb (length area) (length bytes) h); fills = so ∙ rw (zero-add (length bytes)) }
+  put-whole e h so =
+      record {
+        answers = rw (e, le-ltb (length area) (length bytes) h);
+        fills = so ∙ rw (zero-add (length bytes));
+      }
 
 module _ (string : List ℕ) (row slot : ℕ) where
   pub spoken-long : length (spoken string row slot) ≡ length string + width row + width slot + 2
@@ -66,12 +72,15 @@ module _ (string area : List ℕ) (row slot : ℕ) (fits : length (spoken string
 
     module _ (p₂ : ℕ) (area₂ : List ℕ) (two : (p₂ ≡ p₁ + length between) × (area₂ ≡ pasted area₁ p₁ between)) where
       pub slot-fits : p₂ + length (numeral slot) ≤ length area₂
-      slot-fits = three-fits area 0 string between (numeral slot) pieces p₁ area₁ (one .0) (one .1) p₂ area₂ (two .0) (two .1)
+      slot-fits =
+          three-fits area 0 string between (numeral slot) pieces p₁ area₁ (one .0) (one .1) p₂ area₂ (two .0) (two .1)
 
-      pub spoken-put : {n : ℕ} {area₃ : List ℕ} → n ≡ length string + width row + width slot + 2 → area₃ ≡ pasted area₂ p₂ (numeral slot) → Fitted (spoken string row slot) area (Written n) area₃
+      pub spoken-put : {n : ℕ} {area₃ : List ℕ} → n ≡ length string + width row + width slot + 2
+          → area₃ ≡ pasted area₂ p₂ (numeral slot) → Fitted (spoken string row slot) area (Written n) area₃
       spoken-put {n} {area₃} e so =
-          let put = three-placed area 0 string between (numeral slot) pieces p₁ area₁ (one .0) (one .1) p₂ area₂ (two .0) (two .1) area₃ so in
-          put-whole (spoken string row slot) area (e ∙ sym (spoken-long string row slot)) fits (put ∙ ap (pasted area 0) (spoken-pieces string row slot))
+          let here = three-placed area 0 string between (numeral slot) pieces p₁ area₁ (one .0) (one .1) in
+          let put = here p₂ area₂ (two .0) (two .1) area₃ so ∙ ap (pasted area 0) (spoken-pieces string row slot) in
+          put-whole (spoken string row slot) area (e ∙ sym (spoken-long string row slot)) fits put
 
 -- Whether a list has a number, by its place.
 module _ (x : ℕ) (list : List ℕ) where
@@ -86,7 +95,8 @@ module _ (x : ℕ) (list : List ℕ) where
 -- The fields are counted from 1, so a number is one of them exactly if it is in that range.
 field-place : (f : ℕ) → 1 ≤ f → f ≤ length fields → firstPlace f fields ≡ f - 1
 field-place f l h =
-    let there : Stands f fields (f - 1) = record { inside = omega arith; here = field-at (f - 1) (omega arith) ∙ omega arith } in
+    let here : getD fields (f - 1) 0 ≡ f = field-at (f - 1) (omega arith) ∙ omega arith in
+    let there : Stands f fields (f - 1) = record { inside = omega arith; here = here } in
     let first = place-of f fields (f - 1) there in
     omega (arith, field-at (firstPlace f fields) (first .inside), first .here)
 
@@ -102,13 +112,17 @@ no-field f other = not-in-list f fields (by-contra (length fields) (firstPlace f
         other (omega (arith, here)) (omega (arith, here))
 
 module _ (text : List ℕ) where
-  pub label-string : (f : ℕ) → 1 ≤ f → f ≤ length fields → getD (stringsIn keys text) (length numbers + f - 1) [] ≡ labelOf text f
+  pub label-string : (f : ℕ) → 1 ≤ f → f ≤ length fields
+      → getD (stringsIn keys text) (length numbers + f - 1) [] ≡ labelOf text f
   unfolding labelOf
   label-string f l h =
       let line : length numbers + (f - 1) ≡ length numbers + f - 1 = omega arith in
       sym (rw (field-place f l h) (label-at text (f - 1) ∙ ap (λ (k : ℕ). getD (stringsIn keys text) k []) line))
 
-  pub sentence-spoken : (number row slot place : ℕ) {string : List ℕ} {row′ slot′ : ℕ} → string ≡ getD (stringsIn keys text) place [] → place ≡ firstPlace number numbers → row′ ≡ cond (eqb number 0) 0 row → slot′ ≡ cond (eqb number 0) 0 slot → spoken string row′ slot′ ≡ sentence text number row slot
+  pub sentence-spoken : (number row slot place : ℕ) {string : List ℕ} {row′ slot′ : ℕ}
+      → string ≡ getD (stringsIn keys text) place [] → place ≡ firstPlace number numbers
+      → row′ ≡ cond (eqb number 0) 0 row → slot′ ≡ cond (eqb number 0) 0 slot
+      → spoken string row′ slot′ ≡ sentence text number row slot
   unfolding sentence
   sentence-spoken number row slot place e at r s = rw (e, at, r, s)
 
@@ -118,10 +132,13 @@ module _ (text : List ℕ) where
     unfolding afterVerdict areaAfter
     not-a-catalogue e = record { answers = rw e; fills = refl }
 
-    pub without-string : {w : Writing} → verdictOn text ≡ Good → found ≡ false → w ≡ NotWritten (refuse 33 0 0) → Put text found bytes area w area
+    pub without-string : {w : Writing} → verdictOn text ≡ Good → found ≡ false → w ≡ NotWritten (refuse 33 0 0)
+        → Put text found bytes area w area
     unfolding afterVerdict areaAfter
     without-string good e so = record { answers = rw (good, e) so; fills = rw so }
 
-    pub with-string : {bytes₁ area′ : List ℕ} {w : Writing} → verdictOn text ≡ Good → found ≡ true → bytes₁ ≡ bytes → Fitted bytes₁ area w area′ → Put text found bytes area w area′
+    pub with-string : {bytes₁ area′ : List ℕ} {w : Writing} → verdictOn text ≡ Good → found ≡ true → bytes₁ ≡ bytes
+        → Fitted bytes₁ area w area′ → Put text found bytes area w area′
     unfolding afterVerdict
-    with-string good e same f = record { answers = rw (good, e, sym same) (f .answers); fills = rw (sym same) (f .fills) }
+    with-string good e same f =
+        record { answers = rw (good, e, sym same) (f .answers); fills = rw (sym same) (f .fills) }

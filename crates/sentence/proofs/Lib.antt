@@ -1,0 +1,4 @@
+mod Cases
+mod Putting
+pub mod Said
+pub mod Told
