@@ -1,4 +1,7 @@
-// Plans three small tables and prints the sentence of each answer, by a catalogue of its own.
+// Reads a catalogue from standard input, plans three small tables, and prints the sentence of each answer.
+ghost use lib.ListN.{length};
+ghost use mathlib.Core.Path.{_≡_};
+use libc::STDIN_FILENO;
 use libc::STDOUT_FILENO;
 use lists::zeros;
 use planner::Answer;
@@ -8,39 +11,17 @@ use table::Columns;
 use table::Row;
 use text::Writing;
 
-// A catalogue of 24 lines, in English.
-fn english() -> [u8; 1412] {
-    *b"r0=Accepted: every message will be in time. Row, slot:\n\
-r1=A ring has 2 to 32 nodes: correct the number of nodes. Row, slot:\n\
-r2=There is room for 512 rows and no more: remove rows. Row, slot:\n\
-r3=The source is not a node of this ring: correct the source. Row, slot:\n\
-r4=The destination is not a node of this ring: correct the destination. Row, slot:\n\
-r5=Source and destination are the same node: change one of them. Row, slot:\n\
-r6=The due slot is not within 1 to 1024: correct the due slot. Row, slot:\n\
-r7=No room for the plan: set earlier due slots, or call service. Row, slot:\n\
-r8=No room for the arrivals: remove rows, or call service. Row, slot:\n\
-r9=Late: no schedule is in time. Put off due slots or remove rows. First late row, slot:\n\
-r12=There is no such row: choose one that is shown. Row, slot:\n\
-r20=The table's text has a wrong or missing line: correct the line. Line, slot:\n\
-r21=No room for all rows of the text: remove rows, or call service. Row, slot:\n\
-r22=No room for what is to be written: call service. Row, slot:\n\
-r30=The language file has a wrong, missing or extra line: correct the line. Line, slot:\n\
-r31=A line of the language file has no words or over 96 bytes: correct the line. Line, slot:\n\
-r32=A label of the language file repeats an earlier one: change it. Line, slot:\n\
-r33=The language file has no words for this: call service. Row, slot:\n\
-f1=Nodes\n\
-f2=Source\n\
-f3=Destination\n\
-f4=Due slot\n\
-f5=Span\n\
-f6=Range\n"
+// Room for a catalogue: a longer one is read no further, since no right one is so long.
+fn catalogue_room() -> [u8; 4096]
+    ensures { λ r. ⌜ 4096 ≡ length r ⌝ }
+{
+    [0u8; 4096]
 }
 
 // Prints the sentence of an answer, or the number of what forbids it.
-fn say(answer: Answer) {
-    let catalogue = english();
+fn say(catalogue: &[u8], answer: Answer) {
     let mut area = [0u8; 128];
-    let writing = sentence_of(&catalogue, answer, &mut area);
+    let writing = sentence_of(catalogue, answer, &mut area);
     match writing {
         Writing::Written(length) => {
             io::write_all(STDOUT_FILENO, &area[..length]);
@@ -67,10 +48,11 @@ fn two_rows(a: Row, b: Row) -> Columns {
 }
 
 // Plans two rows on a ring of four nodes, and says what came of it.
-fn say_plan(a: Row, b: Row) {
+fn say_plan(catalogue: &[u8], a: Row, b: Row) {
     let mut plan = [0u16; 16];
     let mut arrivals = [0u16; 2];
-    say(plan_columns(4, 2, two_rows(a, b), &mut plan, &mut arrivals));
+    let answer = plan_columns(4, 2, two_rows(a, b), &mut plan, &mut arrivals);
+    say(catalogue, answer);
 }
 
 // One row of a case.
@@ -80,7 +62,10 @@ fn row(src: u16, dst: u16, due: u16) -> Row {
 
 // Says case B of document 01's sweep table, which is accepted, case D, which is late, and a row that goes nowhere.
 fn main() {
-    say_plan(row(0, 1, 2), row(0, 3, 3));
-    say_plan(row(0, 1, 1), row(0, 1, 1));
-    say_plan(row(0, 1, 2), row(2, 2, 1));
+    let mut text = catalogue_room();
+    let count = io::read_full(STDIN_FILENO, &mut text);
+    let catalogue = &text[..count];
+    say_plan(catalogue, row(0, 1, 2), row(0, 3, 3));
+    say_plan(catalogue, row(0, 1, 1), row(0, 1, 1));
+    say_plan(catalogue, row(0, 1, 2), row(2, 2, 1));
 }

@@ -5,14 +5,8 @@ use Rattle.sentence.proofs.Said.{written-fits, written-taken}
 use Rattle.saying.proofs.say.Statement.{statement}
 use Rattle.saying.proofs.say.Tie as tie
 
-english-requires : tie.Need-english-requires
-english-requires c κs = search needs
-
 slice-aggregate-sentence-of : tie.Need-slice-aggregate-sentence-of
 slice-aggregate-sentence-of c = search needs
-
-slice-aggregate-sentence-of-2 : tie.Need-slice-aggregate-sentence-of-2
-slice-aggregate-sentence-of-2 c = search needs
 
 sentence-of-requires : tie.Need-sentence-of-requires
 sentence-of-requires c κs = search needs
@@ -55,9 +49,7 @@ pub say-spec : {M : Type 1} → statement M
 say-spec =
     tie.close
     (tie.spec
-    english-requires
     slice-aggregate-sentence-of
-    slice-aggregate-sentence-of-2
     sentence-of-requires
     enum-known-writing
     array-share-prefix-area
