@@ -75,8 +75,9 @@ fn run_figured(
 ) -> Stop
     requires { ⌜ Ready (traffic nodes (now dst) (now due)) (now left) (now plan) (now arrivals)
         × (now figure ≡ figuresOf (traffic nodes (now dst) (now due)) (now left)) ⌝ }
-    ensures { λ r. ⌜ Ran (traffic nodes (now (dst .entry)) (now (due .entry))) (now (left .entry)) (length (now (plan .entry)))
-        r (now (left .exit)) (now (plan .exit)) (now (arrivals .exit)) ⌝ }
+    ensures { λ r. ⌜ Ran (traffic nodes (now (dst .entry)) (now (due .entry)))
+        (now (left .entry)) (length (now (plan .entry))) r
+        (now (left .exit)) (now (plan .exit)) (now (arrivals .exit)) ⌝ }
 {
     clear(arrivals); // no slot stamps a row that has nothing to go
     let stop = walk(nodes, dst, due, left, figure, plan, arrivals);
@@ -108,8 +109,9 @@ pub fn run(
 ) -> Stop
     requires { ⌜ Ready (traffic nodes (now dst) (now due)) (now left) (now plan) (now arrivals)
         × (length (now left) ≤ 512) ⌝ }
-    ensures { λ r. ⌜ Ran (traffic nodes (now (dst .entry)) (now (due .entry))) (now (left .entry)) (length (now (plan .entry)))
-        r (now (left .exit)) (now (plan .exit)) (now (arrivals .exit)) ⌝ }
+    ensures { λ r. ⌜ Ran (traffic nodes (now (dst .entry)) (now (due .entry)))
+        (now (left .entry)) (length (now (plan .entry))) r
+        (now (left .exit)) (now (plan .exit)) (now (arrivals .exit)) ⌝ }
 {
     let rows = left.len();
     let mut figure = no_figures();

@@ -173,7 +173,8 @@ module _ (T : Traffic) (t : ℕ) (left : List ℕ) (ring : OnRing T left) where
           let r = named-then slot i e in
           sym (eq-eqb _ (suc i) (ap (λ q. getD slot q 0) (picked (r .0) i (r .1) (r .2) .stands .here) ∙ r .2))
       go false e =
-          let inside : place T left i < length slot = omega (arith, slot-length T t left, place-inside T left ring i h) in
+          let inside : place T left i < length slot
+          = omega (arith, slot-length T t left, place-inside T left ring i h) in
           sym (ne-eqb _ (suc i) (λ s. differ (sym e ∙ then-named slot i (place T left i) inside s)))
 
   pub less-moved : less slot left ≡ moved T slot left

@@ -83,7 +83,8 @@ pub fn choose(nodes: u16, dst: &[u16], left: &[u16], figure: &[i32], slot: &mut 
     requires { ⌜ Placed (board nodes (now dst) (now left) (now figure))
         × (length (now left) < 2 ^ 16) × (length (now slot) ≡ nodes) ⌝ }
     ensures { λ _. ⌜ now (slot .exit)
-        ≡ seen (board nodes (now (dst .entry)) (now (left .entry)) (now (figure .entry))) (length (now (left .entry))) ⌝ }
+        ≡ seen (board nodes (now (dst .entry)) (now (left .entry)) (now (figure .entry)))
+        (length (now (left .entry))) ⌝ }
 {
     clear(slot);
     let mut i = 0;

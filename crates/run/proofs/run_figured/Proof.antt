@@ -16,6 +16,10 @@ cleared-at c = c .before .before .before .before .before .before .before
 abbrev begun-at : tie.After-walk → tie.Start
 begun-at c = cleared-at c .before .before .before .before .before .before .before
 
+-- The place where the walk has been left, from where the area behind it is to be cleared.
+abbrev left-at : tie.After-struct-known2 → tie.After-walk
+left-at c = c .before .before .before .before .before .before .before .before .before .before
+
 -- The walk has been left.
 left-off : (c : tie.After-walk) →
     let a = begun-at c .args in
@@ -51,17 +55,16 @@ cast-idle : tie.Need-cast-idle
 cast-idle c = search needs
 
 mul-idle : tie.Need-mul-idle
-mul-idle c = omega (arith, walked-over (c .before .before .before .before .before .before .before .before .before .before))
+mul-idle c = omega (arith, walked-over (left-at c))
 
 mul-clear : tie.Need-mul-clear
-mul-clear c = omega (arith, walked-over (c .before .before .before .before .before .before .before .before .before .before))
+mul-clear c = omega (arith, walked-over (left-at c))
 
 sub-clear : tie.Need-sub-clear
-sub-clear c = inside (left-off (c .before .before .before .before .before .before .before .before .before .before))
+sub-clear c = inside (left-off (left-at c))
 
 part-clear-start : tie.Need-part-clear-start
-part-clear-start c =
-    inside (left-off (c .before .before .before .before .before .before .before .before .before .before))
+part-clear-start c = inside (left-off (left-at c))
 
 part-clear-end : tie.Need-part-clear-end
 part-clear-end c = search needs
@@ -90,7 +93,7 @@ same-length-4 c = search needs
 returns : tie.Need-returns
 returns c =
     let cleared = c .before .before in
-    accepted (left-off (cleared .before .before .before .before .before .before .before .before .before .before .before .before)) (omega arith) _ (cleared .clear2 .ensures)
+    accepted (left-off (left-at (cleared .before .before))) (omega arith) _ (cleared .clear2 .ensures)
 
 same-length-5 : tie.Need-same-length-5
 same-length-5 c = search needs
@@ -107,7 +110,8 @@ same-length-8 c = search needs
 returns-2 : tie.Need-returns-2
 returns-2 c =
     let plan = c .before .before .before .before .before .before in
-    refused (left-off (plan .before .before .before .before .before .before .before .before .before .before .before)) (omega arith) _ _ (plan .clear3 .ensures) (c .before .before .clear4 .ensures)
+    let walked = plan .before .before .before .before .before .before .before .before .before .before .before in
+    refused (left-off walked) (omega arith) _ _ (plan .clear3 .ensures) (c .before .before .clear4 .ensures)
 
 pub run-figured-spec : {M : Type 1} → statement M
 run-figured-spec =

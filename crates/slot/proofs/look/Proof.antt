@@ -22,7 +22,8 @@ begun-at c = c .before .before .before .before .before .before .before
 -- There the row is under way, and stands at that node.
 standing : (c : tie.After-node-at) →
     let a = begun-at c .args in
-    Standing (board (a .nodes) (a .dst .now) (a .left .now) (a .figure .now)) (a .i) (a .slot .now) (c .node-at .result .0)
+    Standing (board (a .nodes) (a .dst .now) (a .left .now) (a .figure .now))
+    (a .i) (a .slot .now) (c .node-at .result .0)
 unfolding standsAt
 standing c =
     record { looking = begun-at c .pre; at = c .node-at .ensures; not-there = c .before .before .if1 .left }
@@ -129,11 +130,13 @@ same-length-2 c = search needs
 
 returns-3 : tie.Need-returns-3
 returns-3 c =
-    tighter (standing (c .before .before .before .before .before .before)) (c .before .before .before .if2 .left) (comes-first (c .before) _ (c .if3 .taken))
+    let held = c .before .before .before in
+    tighter (standing (held .before .before .before)) (held .if2 .left) (comes-first (c .before) _ (c .if3 .taken))
 
 returns-4 : tie.Need-returns-4
 returns-4 c =
-    looser (standing (c .before .before .before .before .before .before)) (c .before .before .before .if2 .left) (comes-first (c .before) _ (c .if3 .left))
+    let held = c .before .before .before in
+    looser (standing (held .before .before .before)) (held .if2 .left) (comes-first (c .before) _ (c .if3 .left))
 
 pub look-spec : {M : Type 1} → statement M
 look-spec =

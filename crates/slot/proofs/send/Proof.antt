@@ -74,7 +74,8 @@ slice-write-left c =
     omega (arith, here, left-long k (end-of l) (l .loop .p), ap length (l .loop .inv .1))
 
 mul-arrivals : tie.Need-mul-arrivals Inv-loop μ-loop
-mul-arrivals c = omega (arith, c .before .before .shared-slice-known .given (c .before .before .before .before .loop .p))
+mul-arrivals c =
+    omega (arith, c .before .before .shared-slice-known .given (c .before .before .before .before .loop .p))
 
 slice-write-arrivals : tie.Need-slice-write-arrivals Inv-loop μ-loop
 slice-write-arrivals c =
