@@ -14,7 +14,8 @@ use Rattle.lists.specs.Lists.{build, largest}
 use Rattle.lists.proofs.Build.{length-build, getD-build}
 use Rattle.lists.proofs.Figures.{largest-below}
 use Rattle.ring.specs.Ring.{distance}
-use Rattle.ring.proofs.Turn.{apart, within-turn}
+use Rattle.ring.proofs.Turn.{apart}
+use Rattle.ring.proofs.Standing.{distance-below}
 use Rattle.table.specs.declared.Row.{Row}
 use Rattle.table.specs.declared.Verdict.the-variants.{Good}
 use Rattle.table.specs.Table.{judgeRows, refuse, distances, lastDue}
@@ -66,6 +67,9 @@ module _ {n : ℕ} {src dst due : List ℕ} (k : Tabled n src dst due) (good : j
   start-at : (i : ℕ) → i < length start → (i < length src) × (getD start i 0 ≡ distance n (getD src i 0) (getD dst i 0))
   start-at i h = let l : i < length src = omega (arith, start-long) in (l, getD-build (length src) _ i 0 l)
 
+  less-than-a-turn : (i : ℕ) → i < length src → distance n (getD src i 0) (getD dst i 0) ≤ n
+  less-than-a-turn i h = omega (arith, distance-below n (getD src i 0) (getD dst i 0) (row i h .dst-inside))
+
   pub on-ring : OnRing (traffic n dst due) start
   on-ring =
       record {
@@ -73,7 +77,7 @@ module _ {n : ℕ} {src dst due : List ℕ} (k : Tabled n src dst due) (good : j
         dst-each = k .same .dst-each ∙ sym start-long;
         due-each = k .same .due-each ∙ sym start-long;
         dst-inside = λ i h. row i (start-at i h .0) .dst-inside;
-        left-inside = λ i h. rw (start-at i h .1) (within-turn n (getD src i 0) (getD dst i 0) (row i (start-at i h .0) .dst-inside));
+        left-inside = λ i h. rw (start-at i h .1) (less-than-a-turn i (start-at i h .0));
       }
 
   pub under-way : AllUnderWay start
