@@ -39,7 +39,7 @@ tally-within (yes p) e f = omega (arith, tally-one e (f p))
 tally-within (no p) e f = omega arith
 
 -- Is there a number below k with the property?
-pub find : {P : ℕ → Type 0} (k : ℕ) → Decided P → Dec ((i : ℕ) × (i < k) × P i)
+unfoldable pub find : {P : ℕ → Type 0} (k : ℕ) → Decided P → Dec ((i : ℕ) × (i < k) × P i)
 find zero d = no (λ h. not-suc-le-zero (h .1))
 find {P} (suc k) d = go (d k) (find k d)
   where
@@ -93,7 +93,7 @@ unfolding count
 count-none d zero f = refl
 count-none d (suc k) f = omega (arith, tally-none (d k) (f k (omega arith)), count-none d k (λ i l. f i (omega arith)))
 
-pub both-decided : {A B : Type 0} → Dec A → Dec B → Dec (A × B)
+unfoldable pub both-decided : {A B : Type 0} → Dec A → Dec B → Dec (A × B)
 both-decided (yes a) (yes b) = yes (a, b)
 both-decided (yes a) (no b) = no (λ h. b (h .1))
 both-decided (no a) b = no (λ h. a (h .0))

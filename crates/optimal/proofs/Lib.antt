@@ -1,4 +1,6 @@
 pub mod Count
+pub mod Tests
+mod Cases
 pub mod Window
 pub mod Round
 pub mod Slots

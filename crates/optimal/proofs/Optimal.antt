@@ -5,9 +5,9 @@
 -- Assumes nothing.
 use mathlib.Core.Path.{_≡_, refl, _∙_, ap, sym}
 use mathlib.Core.Logic.{_↔_}
-use Prim.Native.Nat.{ℕ, zero, suc, _+_, _*_, _≤_, _<_}
+use Prim.Native.Nat.{ℕ, zero, suc, _+_, _*_, _≤_, _<_, min}
 use native.Mathlib.Nat.{suc-mul, mul-le-mul-right}
-use native.Mathlib.Omega.{arith}
+use native.Mathlib.Omega.{arith, by-contra}
 use native.Mathlib.Decide.{decLt}
 use mathlib.Core.List.{List, _++_}
 use lib.ListN.{length, getD, take, drop, length-append, length-drop}
@@ -18,8 +18,8 @@ use Rattle.slack.proofs.Rule.{none-under-way, slot-length, slot-entry, pick-lea
 use Rattle.optimal.specs.Schedule.{Schedule, Legal, Meets, namedIn, leftAt}
 use Rattle.optimal.proofs.Count.{count-none}
 use Rattle.optimal.proofs.Window.{must, window-on-time, window-before, window-after}
-use Rattle.optimal.proofs.Round.{ring-way}
-use Rattle.optimal.proofs.Slots.{links, dueOf, nodeOf, linksFrom, RingWindow, slot-step, rule-least-first}
+use Rattle.optimal.proofs.Round.{nodeOf, linksFrom, ring-way}
+use Rattle.optimal.proofs.Slots.{links, dueOf, RingWindow, slot-step, rule-least-first}
 
 module _ (T : Traffic) where
   -- The window before a slot, whatever it names, and the window after a slot of the rule.
@@ -68,14 +68,9 @@ module _ (T : Traffic) (start schedule : List ℕ) where
   -- A row that is under way at instant t is delivered later, and no later than its due slot.
   due-later : Meets T start schedule → (i t : ℕ) → i < length start → 0 < getD (leftAt T start schedule t) i 0 → t < getD (T .due) i 0
   unfolding Meets
-  due-later meets i t known under-way = go (meets i known)
-    where
-      go : (s : ℕ) × (s ≤ getD (T .due) i 0) × (getD (leftAt T start schedule s) i 0 ≡ 0) → t < getD (T .due) i 0
-      go (s, in-time, delivered) = by (decLt t s)
-        where
-          by : Dec (t < s) → t < getD (T .due) i 0
-          by (yes d) = omega arith
-          by (no d) = absurd (omega (arith, left-less i known s t (omega arith)))
+  due-later meets i t known under-way =
+      let met = meets i known in
+      by-contra (suc t) (getD (T .due) i 0) (λ late. omega (arith, left-less i known (met .0) t (omega arith)))
 
   -- The window holds at each instant of the schedule, from its end backward.
   window-of-schedule : OnRing T start → (slots : ℕ) → ((i : ℕ) → i < length start → getD (T .due) i 0 ≤ slots) → Meets T start schedule
@@ -164,9 +159,10 @@ module _ {T : Traffic} {start : List ℕ} {slots : ℕ} (ring : OnRing T start) 
       legal : Legal T start slots plan
       legal = unfold Legal in λ t p i l inside named.
           let left = stateAt T start t in
-          let chosen : pick T t left p (length left) ≡ suc i = sym (slot-entry T t left p inside) ∙ ap (λ slot. getD slot p 0) (sym (plan-names T start slots t l)) ∙ named in
-          let best = pick-least T t left p (length left) i chosen in
-          rw (plan-state T start slots t (omega arith)) (omega (arith, best .inside, state-length T start t), best .stands .under-way, best .stands .here)
+          let slot-names = ap (λ slot. getD slot p 0) (plan-names T start slots t l) in
+          let best = pick-least T t left p (length left) i (sym (slot-entry T t left p inside) ∙ sym slot-names ∙ named) in
+          rw (plan-state T start slots t (omega arith))
+          (omega (arith, best .inside, best .stands .under-way, best .stands .here, state-length T start t))
 
       -- no row is late up to the end of the run
       none : (t : ℕ) → t ≤ end → lateRow T t (stateAt T start t) ≡ 0
@@ -177,25 +173,31 @@ module _ {T : Traffic} {start : List ℕ} {slots : ℕ} (ring : OnRing T start) 
           go (no d) = let e : t ≡ end = omega arith in rw e (sym (ended .row-is) ∙ on-time)
 
       -- so each row is delivered at the run's end, or at its due slot where that comes before
-      meets : Meets T start plan
-      meets = unfold Meets in λ i known. go i known (decLt end (getD (T .due) i 0))
+      when : ℕ → ℕ
+      when i = min end (getD (T .due) i 0)
+
+      there : (i : ℕ) → i < length start → getD (stateAt T start (when i)) i 0 ≡ 0
+      there i known = go (decLt end (getD (T .due) i 0))
         where
-          go : (i : ℕ) → i < length start → Dec (end < getD (T .due) i 0) → (t : ℕ) × (t ≤ getD (T .due) i 0) × (getD (leftAt T start plan t) i 0 ≡ 0)
-          go i known (yes d) = (
-            end,
-            omega arith,
-            rw (plan-state T start slots end (ended .within))
-                (none-under-way (stateAt T start end) (stop-delivered T start slots dues on-time) i),
-          )
-          go i known (no d) =
-              let t = getD (T .due) i 0 in
-              let left = stateAt T start t in
-              let on-its-way = not-late-then T t left i (late-none T t left (none t (omega arith)) i (omega (arith, state-length T start t))) in
-              (t, omega arith, rw (plan-state T start slots t (dues i known)) (there (getD left i 0) t on-its-way))
+          go : Dec (end < getD (T .due) i 0) → getD (stateAt T start (when i)) i 0 ≡ 0
+          go (yes d) =
+              let e : when i ≡ end = omega arith in
+              rw e (none-under-way (stateAt T start end) (stop-delivered T start slots dues on-time) i)
+          go (no d) =
+              let left = stateAt T start (when i) in
+              let not-late = late-none T (when i) left (none (when i) (omega arith)) i (omega (arith, state-length T start (when i))) in
+              delivered (getD left i 0) (λ under-way. omega (arith, not-late-then T (when i) left i not-late under-way))
             where
-              there : (l t : ℕ) → (0 < l → t + l ≤ t) → l ≡ 0
-              there zero t h = refl
-              there (suc l) t h = absurd (omega (arith, h (omega arith)))
+              delivered : (l : ℕ) → (0 < l → when i + l ≤ when i) → l ≡ 0
+              delivered zero h = refl
+              delivered (suc l) h = absurd (omega (arith, h (omega arith)))
+
+      meets : Meets T start plan
+      meets = unfold Meets in λ i known. (
+        when i,
+        omega arith,
+        rw (plan-state T start slots (when i) (omega (arith, dues i known))) (there i known),
+      )
 
   -- The run ends with a late row just where no legal schedule meets the table.
   pub late-iff-none : (stopOf T start slots .row ≡ 0 → ⊥) ↔ ((schedule : List ℕ) → Schedule T start slots schedule → ⊥)

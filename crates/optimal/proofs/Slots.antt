@@ -5,11 +5,10 @@ use Prim.Native.Nat.{ℕ, zero, suc, _<_}
 use native.Mathlib.Omega.{arith}
 use mathlib.Core.List.{List}
 use lib.ListN.{length, getD}
-use Rattle.ring.specs.Ring.{standing}
 use Rattle.slack.specs.Slack.{Traffic, OnRing, place, moved, slotOf, pick}
 use Rattle.slack.proofs.Rule.{Picked, pick-least, pick-none, place-inside, moved-sent, moved-less, moved-by-one, moved-named, slot-entry}
 use Rattle.optimal.proofs.Window.{Window, Step, Before, LeastFirst}
-use Rattle.optimal.proofs.Round.{onTo}
+use Rattle.optimal.proofs.Round.{nodeOf, linksFrom}
 
 -- The functions that the window's theory wants, from the lists of a table.
 abbrev pub links : List ℕ → ℕ → ℕ
@@ -19,18 +18,12 @@ module _ (T : Traffic) where
   abbrev pub dueOf : ℕ → ℕ
   dueOf i = getD (T .due) i 0
 
-  abbrev pub nodeOf : ℕ → ℕ → ℕ
-  nodeOf i l = standing (T .nodes) (getD (T .dst) i 0) l
-
-  abbrev pub linksFrom : ℕ → ℕ → ℕ
-  linksFrom p i = onTo (T .nodes) (getD (T .dst) i 0) p
-
   -- The window of a state on the ring.
   abbrev pub RingWindow : ℕ → List ℕ → Type 0
-  RingWindow t left = Window (length left) (T .nodes) (λ i. T .nodes) nodeOf linksFrom dueOf t (links left)
+  RingWindow t left = Window (length left) (T .nodes) (λ i. T .nodes) (nodeOf T) (linksFrom T) dueOf t (links left)
 
   -- What a slot does to a state, whatever it names.
-  pub slot-step : (slot left : List ℕ) → Step (length left) (T .nodes) (λ i. T .nodes) nodeOf linksFrom dueOf (links left) (links (moved T slot left))
+  pub slot-step : (slot left : List ℕ) → Step (length left) (T .nodes) (λ i. T .nodes) (nodeOf T) (linksFrom T) dueOf (links left) (links (moved T slot left))
   unfolding place
   slot-step slot left =
       record {
@@ -47,7 +40,7 @@ module _ (T : Traffic) where
 
   -- The rule lets a row wait only for one with no more slack.
   pub rule-least-first : (t : ℕ) (left : List ℕ) → OnRing T left
-      → LeastFirst (length left) (T .nodes) (λ i. T .nodes) nodeOf linksFrom dueOf (links left) (links (moved T (slotOf T t left) left))
+      → LeastFirst (length left) (T .nodes) (λ i. T .nodes) (nodeOf T) (linksFrom T) dueOf (links left) (links (moved T (slotOf T t left) left))
   unfolding place
   rule-least-first t left ring x known under-way waits = go (pick T t left (place T left x) (length left)) refl
     where
@@ -61,7 +54,7 @@ module _ (T : Traffic) where
       named = slot-entry T t left p (place-inside T left ring x known)
 
       go : (n : ℕ) → pick T t left p (length left) ≡ n
-          → (y : ℕ) × Before (length left) (T .nodes) (λ i. T .nodes) nodeOf linksFrom dueOf (links left) (links after) x y
+          → (y : ℕ) × Before (length left) (T .nodes) (λ i. T .nodes) (nodeOf T) (linksFrom T) dueOf (links left) (links after) x y
       go zero e = absurd (pick-none T t left p (length left) e x known (record { under-way = under-way; here = refl }))
       go (suc y) e = (y, record { known = best .inside; same-node = best .stands .here; moves = sent; no-more-slack = best .least x known (record { under-way = under-way; here = refl }) })
         where
