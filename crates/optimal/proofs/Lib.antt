@@ -1,6 +1,8 @@
 pub mod Count
 pub mod Tests
 mod Cases
+pub mod Plan
+pub mod Deliveries
 pub mod Window
 pub mod Round
 pub mod Slots

@@ -5,20 +5,19 @@
 -- Assumes nothing.
 use mathlib.Core.Path.{_≡_, refl, _∙_, ap, sym}
 use mathlib.Core.Logic.{_↔_}
-use Prim.Native.Nat.{ℕ, zero, suc, _+_, _*_, _≤_, _<_, min}
-use native.Mathlib.Nat.{suc-mul, mul-le-mul-right}
+use Prim.Native.Nat.{ℕ, zero, suc, _+_, _≤_, _<_, min}
 use native.Mathlib.Omega.{arith, by-contra}
 use native.Mathlib.Decide.{decLt}
-use mathlib.Core.List.{List, _++_}
-use lib.ListN.{length, getD, take, drop, length-append, length-drop}
-use lib.Seq.{take-append-le, drop-append-le, drop-at, take-all}
-use Rattle.slack.specs.Slack.{Traffic, OnRing, moved, slotOf, pick, stateAt, planOf, lateRow, stopOf}
+use mathlib.Core.List.{List}
+use lib.ListN.{length, getD}
+use Rattle.slack.specs.Slack.{Traffic, OnRing, moved, slotOf, stateAt, planOf, lateRow, stopOf}
 use Rattle.slack.proofs.Ending.{Ended, stop-first, stop-delivered}
-use Rattle.slack.proofs.Rule.{none-under-way, slot-length, slot-entry, pick-least, late-none, none-late, not-late-then, then-not-late, moved-length, run-length, run-on-ring, run-less, state-length, state-on-ring}
+use Rattle.slack.proofs.Rule.{none-under-way, slot-entry, pick-least, late-none, none-late, not-late-then, then-not-late, moved-length, run-length, run-on-ring, run-less, state-length, state-on-ring}
 use Rattle.optimal.specs.Schedule.{Schedule, Legal, Meets, namedIn, leftAt}
 use Rattle.optimal.proofs.Count.{count-none}
 use Rattle.optimal.proofs.Window.{must, window-on-time, window-before, window-after}
 use Rattle.optimal.proofs.Round.{nodeOf, linksFrom, ring-way}
+use Rattle.optimal.proofs.Plan.{plan-length, plan-names, plan-state}
 use Rattle.optimal.proofs.Slots.{links, dueOf, RingWindow, slot-step, rule-least-first}
 
 module _ (T : Traffic) where
@@ -89,47 +88,6 @@ module _ (T : Traffic) (start schedule : List ℕ) where
       ring-window-before T t (namedIn T schedule t) (leftAt T start schedule t) (left-on-ring ring t)
       (window-of-schedule ring slots dues meets m (suc t) (omega arith))
       (λ i l under-way done. due-later meets i t (omega (arith, left-length t)) under-way)
-
--- ---- the rule's own plan
-
-module _ (T : Traffic) (start : List ℕ) where
-  plan-length : (slots : ℕ) → length (planOf T start slots) ≡ slots * T .nodes
-  unfolding planOf
-  plan-length zero = omega arith
-  plan-length (suc t) =
-      length-append (planOf T start t) (slotOf T t (stateAt T start t))
-      ∙ omega (arith, plan-length t, slot-length T t (stateAt T start t), suc-mul t (T .nodes))
-
-  -- What the plan names in slot t is the rule's slot t.
-  plan-names : (slots t : ℕ) → t < slots → namedIn T (planOf T start slots) t ≡ slotOf T t (stateAt T start t)
-  unfolding planOf namedIn
-  plan-names zero t l = absurd (omega arith)
-  plan-names (suc slots) t l = go (decLt t slots) (plan-names slots t)
-    where
-      n : ℕ
-      n = T .nodes
-
-      plan : List ℕ
-      plan = planOf T start slots
-
-      slot : List ℕ
-      slot = slotOf T slots (stateAt T start slots)
-
-      go : Dec (t < slots) → (t < slots → namedIn T plan t ≡ slotOf T t (stateAt T start t))
-          → take n (drop (t * n) (plan ++ slot)) ≡ slotOf T t (stateAt T start t)
-      go (yes d) more =
-          let room : t * n + n ≤ length plan = omega (arith, plan-length slots, suc-mul t n, mul-le-mul-right n d) in
-          let rest : n ≤ length (drop (t * n) plan) = omega (arith, length-drop (t * n) plan) in
-          rw (drop-append-le (t * n) plan slot (omega arith), take-append-le n (drop (t * n) plan) slot rest) (more d)
-      go (no d) more =
-          let e : t ≡ slots = omega arith in
-          rw (e, drop-at plan slot (slots * n) (plan-length slots), take-all n slot (omega (arith, slot-length T slots (stateAt T start slots))))
-
-  -- So the plan's run is the rule's.
-  plan-state : (slots t : ℕ) → t ≤ slots → leftAt T start (planOf T start slots) t ≡ stateAt T start t
-  unfolding leftAt stateAt
-  plan-state slots zero l = refl
-  plan-state slots (suc t) l = rw (plan-state slots t (omega arith), plan-names slots t l)
 
 -- ---- the theorems
 

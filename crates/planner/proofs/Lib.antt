@@ -3,4 +3,7 @@ pub mod Answering
 pub mod Good
 pub mod Judged
 pub mod Promises
+pub mod WellFormed
+pub mod EmptyTable
+pub mod Seen
 mod Cases

@@ -11,9 +11,9 @@ use mathlib.Core.Logic.{_↔_}
 use Prim.Native.Nat.{ℕ, zero, suc, _≤_, _<_}
 use native.Mathlib.Omega.{arith}
 use native.Mathlib.Nat.{mul-comm}
-use mathlib.Core.Bool.{Bool, true, false, cond}
+use mathlib.Core.Bool.{cond}
 use mathlib.Core.List.{List, _++_}
-use borrow.Author.Tests.{lt-ltb, le-ltb, ne-eqb}
+use borrow.Author.Tests.{le-ltb, ne-eqb}
 use lib.Dec.{eqb, eqb·suc-zero}
 use lib.ListN.{length, getD, take, drop, length-map, List·getD-map}
 use lib.Seq.{take-at}
@@ -28,13 +28,14 @@ use Rattle.table.specs.Table.{WellFormed, judgeRows, refuse, destinations, dues
 use Rattle.table.specs.Steps.{none, sources, rowsOf}
 use Rattle.table.proofs.Rows.{rows-of-columns, same-rows}
 use Rattle.table.proofs.Judging.{good-rows}
-use Rattle.slack.specs.Slack.{Traffic, OnRing, underWay, planOf, stateAt, deliveredFrom, arrivalsOf, lateRow, stopOf}
+use Rattle.slack.specs.Slack.{Traffic, OnRing, planOf, stateAt, deliveredFrom, arrivalsOf, lateRow, stopOf}
 use Rattle.run.specs.Steps.{AllUnderWay}
 use Rattle.run.proofs.Walking.{plan-length}
 use Rattle.slack.proofs.Rule.{LowestLate, late-lowest}
 use Rattle.slack.proofs.Ending.{stop-first}
 use Rattle.optimal.specs.Schedule.{busy}
 use Rattle.optimal.proofs.Optimal.{plan-is-schedule, late-iff-none}
+use Rattle.optimal.proofs.Deliveries.{First, delivered-first}
 use Rattle.optimal.proofs.Sends.{sends-counted}
 use Rattle.planner.specs.declared.Answer.{Answer}
 use Rattle.planner.specs.declared.Answer.the-variants.{Accepted, Refused}
@@ -63,11 +64,11 @@ module _ (n : ℕ) (rows : List Row) (well : WellFormed n rows) where
   its-links : distances n rows ≡ build (length (sources rows)) (λ i. distance n (getD (sources rows) i 0) (getD (destinations rows) i 0))
   its-links = ap (distances n) (sym (rows-of-columns rows)) ∙ its-start tabled all-good
 
-  table-on-ring : OnRing (trafficOf n rows) (distances n rows)
+  pub table-on-ring : OnRing (trafficOf n rows) (distances n rows)
   table-on-ring =
       rw its-links (on-ring tabled all-good)
 
-  due-in-time : (i : ℕ) → i < length (distances n rows) → getD (dues rows) i 0 ≤ lastDue rows
+  pub due-in-time : (i : ℕ) → i < length (distances n rows) → getD (dues rows) i 0 ≤ lastDue rows
   unfolding lastDue
   due-in-time i h = at-most-largest (dues rows) i
 
@@ -89,11 +90,11 @@ module _ {n : ℕ} {rows : List Row} {plan arrivals plan′ arrivals′ : List �
   in-time = due-in-time n rows (k .well-formed)
 
   -- what is left to decide is how the run ends
-  decided : r ≡ cond (eqb (ending n rows .row) 0) (Accepted (theSummary n rows)) (Refused (refuse 9 (ending n rows .row) (ending n rows .slot .0)))
+  pub decided : r ≡ cond (eqb (ending n rows .row) 0) (Accepted (theSummary n rows)) (Refused (refuse 9 (ending n rows .row) (ending n rows .slot .0)))
   unfolding theAnswer afterVerdict answerToRows
   decided = out .answers ∙ rw (k .well-formed, le-ltb (length plan) (planRoom n rows) (k .room-for-plan), le-ltb (length arrivals) (length rows) (k .room-for-arrivals))
 
-  accepted-then : numberOf r ≡ 0 → stopOf T start slots .row ≡ 0
+  pub accepted-then : numberOf r ≡ 0 → stopOf T start slots .row ≡ 0
   unfolding numberOf ending
   accepted-then e = go (stopOf T start slots .row) refl (ap numberOf (sym decided) ∙ e)
     where
@@ -118,13 +119,19 @@ module _ {n : ℕ} {rows : List Row} {plan arrivals plan′ arrivals′ : List �
       let best = late-iff-none {T = T} {start = start} {slots = slots} ring in-time in
       (λ e. best .0 (late-then e), λ none. then-late (best .1 none))
 
-  the-plan-is : numberOf r ≡ 0 → take (planRoom n rows) plan′ ≡ planOf T start slots
-  unfolding areaAfter ending thePlan
+  -- An acceptance carries the table's summary.
+  pub accepted-with : numberOf r ≡ 0 → r ≡ Accepted (theSummary n rows)
+  unfolding ending
+  accepted-with e = decided ∙ rw (accepted-then e)
+
+  -- The used entries of an accepted plan are the rule's plan.
+  pub the-plan-is : numberOf r ≡ 0 → take (planRoom n rows) plan′ ≡ planOf T start slots
+  unfolding areaAfter thePlan
   the-plan-is e =
-      let is : r ≡ Accepted (theSummary n rows) = decided ∙ rw (accepted-then e) in
-      let filled : plan′ ≡ planOf T start slots ++ drop (length (planOf T start slots)) plan = out .fills-plan ∙ rw is in
-      let long : length (planOf T start slots) ≡ planRoom n rows = plan-length T start slots ∙ mul-comm slots n in
-      ap (take (planRoom n rows)) filled ∙ take-at (planOf T start slots) _ (planRoom n rows) long
+      let its-plan = planOf T start slots in
+      let filled : plan′ ≡ its-plan ++ drop (length its-plan) plan = out .fills-plan ∙ rw (accepted-with e) in
+      let long : length its-plan ≡ planRoom n rows = plan-length T start slots ∙ mul-comm slots n in
+      ap (take (planRoom n rows)) filled ∙ take-at its-plan _ (planRoom n rows) long
 
   -- An accepted table's plan is itself such a schedule.
   pub accepted-plan-is-a-schedule : numberOf r ≡ 0 → ScheduleOf n rows (take (planRoom n rows) plan′)
@@ -162,21 +169,15 @@ first-due : (rows : List Row) → getD (dues rows) 0 0 ≡ getD rows 0 none .due
 unfolding dues
 first-due rows = List·getD-map (λ r. r .due) rows 0 none
 
--- A delivery instant lies no earlier than the instant from which it is looked for.
-from-there : (T : Traffic) (start : List ℕ) (i m t : ℕ) → t ≤ deliveredFrom T start i m t
-unfolding deliveredFrom
-from-there T start i zero t = omega arith
-from-there T start i (suc m) t = go (underWay (stateAt T start t) i) (from-there T start i m (suc t))
-  where
-    go : (b : Bool) → suc t ≤ deliveredFrom T start i m (suc t) → t ≤ cond b (deliveredFrom T start i m (suc t)) t
-    go true later = omega arith
-    go false later = omega arith
-
 -- A row under way at instant 0 is delivered later.
-not-at-once : (T : Traffic) (start : List ℕ) (i slots : ℕ) → 0 < getD start i 0 → 0 < slots → 0 < deliveredFrom T start i slots 0
-unfolding deliveredFrom underWay stateAt
-not-at-once T start i zero some h = absurd (omega arith)
-not-at-once T start i (suc m) some h = rw (lt-ltb 0 (getD start i 0) some) (from-there T start i m 1)
+not-at-once : (T : Traffic) (start : List ℕ) (i slots : ℕ) → 0 < getD start i 0 → 0 < slots
+    → 0 < deliveredFrom T start i slots 0
+unfolding stateAt
+not-at-once T start i slots some h = go (deliveredFrom T start i slots 0) (delivered-first T start i slots 0)
+  where
+    go : (d : ℕ) → First T start i slots 0 d → 0 < d
+    go zero first = absurd (omega (arith, first .there (omega arith)))
+    go (suc d) first = omega arith
 
 -- The last delivery of a well-formed table that has a row is after instant 0: the used share divides by no 0.
 pub last-above-zero : (n : ℕ) (rows : List Row) → WellFormed n rows → 0 < length rows → 0 < largest (theArrivals n rows)
