@@ -6,4 +6,5 @@ pub mod Promises
 pub mod WellFormed
 pub mod EmptyTable
 pub mod Seen
+pub mod Divided
 mod Cases

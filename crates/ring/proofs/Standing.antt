@@ -26,7 +26,7 @@ pub at-source-of : (n p q l : ℕ) → p < n → l ≤ n → (p + l) % n ≡ q �
 unfolding standing
 at-source-of n p q l inside far leads = go (decLt (p + l) n)
   where
-    go : Dec (p + l < n) → (q + n - l) % n ≡ p
+    go : Dec (p + l < n) → standing n q l ≡ p
     go (yes d) =
         let e = mod-eq-of-lt d in
         omega (arith, short-of-zero n l q (omega arith) (omega arith))
@@ -44,7 +44,7 @@ pub one-link-on : (n q l : ℕ) → q < n → 0 < l → l ≤ n → standing n q
 unfolding standing
 one-link-on n q l inside some far = go (decLe l q) (decLe (l - 1) q)
   where
-    go : Dec (l ≤ q) → Dec (l - 1 ≤ q) → (q + n - (l - 1)) % n ≡ ((q + n - l) % n + 1) % n
+    go : Dec (l ≤ q) → Dec (l - 1 ≤ q) → standing n q (l - 1) ≡ (standing n q l + 1) % n
     go (yes a) b =
         let on : q - l + 1 < n = omega arith in
         rw (short-of-zero n l q a inside) (omega (arith, mod-eq-of-lt on, short-of-zero n (l - 1) q (omega arith) inside))
@@ -65,7 +65,7 @@ pub distance-lands : (n p q : ℕ) → p < n → q < n → (p + distance n p q) 
 unfolding distance
 distance-lands n p q source inside = go (decLe p q)
   where
-    go : Dec (p ≤ q) → (p + (q + n - p) % n) % n ≡ q
+    go : Dec (p ≤ q) → (p + distance n p q) % n ≡ q
     go (yes d) =
         let there : p + (q - p) ≡ q = omega arith in
         rw (short-of-zero n p q d inside, there) (mod-eq-of-lt inside)
