@@ -14,8 +14,7 @@ use Rattle.lists.specs.Lists.{build, largest}
 use Rattle.lists.proofs.Build.{length-build, getD-build}
 use Rattle.lists.proofs.Figures.{largest-below}
 use Rattle.ring.specs.Ring.{distance}
-use Rattle.ring.proofs.Turn.{apart}
-use Rattle.ring.proofs.Standing.{distance-below}
+use Rattle.ring.proofs.Standing.{distance-below, apart}
 use Rattle.table.specs.declared.Row.{Row}
 use Rattle.table.specs.declared.Verdict.the-variants.{Good}
 use Rattle.table.specs.Table.{judgeRows, refuse, distances, lastDue}

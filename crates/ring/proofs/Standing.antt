@@ -4,15 +4,16 @@
 --     one-link-on         with one link less to go it stands one node on, at (p + 1) mod n
 --     at-destination      with none to go it stands at its destination
 --     distance-below      a distance is less than a whole turn
+--     apart               and at least one link between two nodes that differ
 --     distance-lands      the distance from p to q, gone from p, ends at q
 -- Assumes nothing.
-use mathlib.Core.Path.{_≡_, _∙_, ap}
-use Prim.Native.Nat.{ℕ, _+_, _-_, _%_, _≤_, _<_}
-use native.Mathlib.Nat.{mod-eq-of-lt, add-mod-right}
+use mathlib.Core.Path.{_≡_, _∙_, ap, sym}
+use Prim.Native.Nat.{ℕ, zero, suc, _+_, _-_, _%_, _≤_, _<_}
+use native.Mathlib.Nat.{mod-eq-of-lt, mod-lt, add-mod-right, add-zero}
 use native.Mathlib.Decide.{decLe, decLt}
 use native.Mathlib.Omega.{arith}
 use Rattle.ring.specs.Ring.{distance, standing}
-use Rattle.ring.proofs.Turn.{short-of-zero, past-zero, on-ring}
+use Rattle.ring.proofs.Turn.{short-of-zero, past-zero}
 
 -- A sum of less than two turns, past one of them.
 pub one-turn : (n m : ℕ) → n ≤ m → m < n + n → m % n ≡ m - n
@@ -58,7 +59,9 @@ one-link-on n q l inside some far = go (decLe l q) (decLe (l - 1) q)
 -- A distance is less than a whole turn.
 pub distance-below : (n p q : ℕ) → q < n → distance n p q < n
 unfolding distance
-distance-below n p q inside = on-ring n p q inside
+distance-below n p q inside =
+    let some : 0 < n = omega arith in
+    mod-lt _ some
 
 -- Who goes on from p by the distance from p to q comes to q.
 pub distance-lands : (n p q : ℕ) → p < n → q < n → (p + distance n p q) % n ≡ q
@@ -67,10 +70,19 @@ distance-lands n p q source inside = go (decLe p q)
   where
     go : Dec (p ≤ q) → (p + distance n p q) % n ≡ q
     go (yes d) =
-        let there : p + (q - p) ≡ q = omega arith in
-        rw (short-of-zero n p q d inside, there) (mod-eq-of-lt inside)
+        let there : p + distance n p q ≡ q = omega (arith, short-of-zero n p q d inside) in
+        rw there (mod-eq-of-lt inside)
     go (no d) =
-        rw (past-zero n p q (omega arith) (omega arith)) (omega (arith, one-turn n (p + (q + n - p)) (omega arith) (omega arith)))
+        let there : p + distance n p q ≡ q + n = omega (arith, past-zero n p q (omega arith) (omega arith)) in
+        rw there (add-mod-right q n ∙ mod-eq-of-lt inside)
+
+-- Two nodes that differ are at least one link apart.
+pub apart : (n p q : ℕ) → p < n → q < n → (p ≡ q → ⊥) → 0 < distance n p q
+apart n p q source inside differ = go (distance n p q) (distance-lands n p q source inside)
+  where
+    go : (l : ℕ) → (p + l) % n ≡ q → 0 < l
+    go zero e = absurd (differ (sym (mod-eq-of-lt source) ∙ rw add-zero at e))
+    go (suc l) e = omega arith
 
 -- A row with its whole distance to go stands at its source.
 pub at-source : (n p q : ℕ) → p < n → q < n → standing n q (distance n p q) ≡ p
