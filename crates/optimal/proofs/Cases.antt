@@ -1,4 +1,5 @@
--- Small schedules, and whether each is legal and meets its table, computed on the definitions by one statement over the list of cases.
+-- Small schedules, and whether each is legal and meets its table, computed on the definitions by one statement over
+-- the list of cases.
 -- A definition of `Legal` or `Meets` that said less, or more, would give another list.
 -- Assumes nothing.
 use mathlib.Core.Path.{_≡_, refl, ap}
@@ -12,7 +13,15 @@ use Rattle.ring.specs.Ring.{distance, standing}
 use Rattle.slack.specs.Slack.{Traffic, traffic, place, moved}
 use Rattle.optimal.specs.Schedule.{Legal, Meets, namedIn, leftAt}
 use Rattle.optimal.proofs.Count.{find, both-decided}
-use Rattle.optimal.proofs.Tests.{alike, all-below, row-named, all-three, some-below, legal-decided, meets-decided}
+use Rattle.optimal.proofs.Tests.{
+  alike,
+  all-below,
+  row-named,
+  all-three,
+  some-below,
+  legal-decided,
+  meets-decided,
+}
 
 -- A row as document 01 writes it, source > destination / due slot.
 record Row : Type 0 where

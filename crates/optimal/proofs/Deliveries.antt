@@ -67,12 +67,14 @@ module _ (T : Traffic) (start : List ℕ) where
           }
 
   -- The plan of a run that ends with no late row delivers each row at the instant found for it, and not before.
-  pub plan-delivers : (slots : ℕ) → ((i : ℕ) → i < length start → getD (T .due) i 0 ≤ slots) → stopOf T start slots .row ≡ 0
+  pub plan-delivers : (slots : ℕ) → ((i : ℕ) → i < length start → getD (T .due) i 0 ≤ slots)
+      → stopOf T start slots .row ≡ 0
       → (i : ℕ) → i < length start → Delivered T start (planOf T start slots) i (deliveredFrom T start i slots 0)
   plan-delivers slots dues on-time i known =
       record {
         there = rw (plan-state T start slots d (omega (arith, found .within))) (there (decLt d slots));
-        not-before = λ t l. rw (plan-state T start slots t (omega (arith, found .within))) (found .before t (omega arith) l);
+        not-before = λ t l.
+            rw (plan-state T start slots t (omega (arith, found .within))) (found .before t (omega arith) l);
       }
     where
       d : ℕ

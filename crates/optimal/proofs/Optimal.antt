@@ -12,42 +12,68 @@ use mathlib.Core.List.{List}
 use lib.ListN.{length, getD}
 use Rattle.slack.specs.Slack.{Traffic, OnRing, moved, slotOf, stateAt, planOf, lateRow, stopOf}
 use Rattle.slack.proofs.Ending.{Ended, stop-first, stop-delivered}
-use Rattle.slack.proofs.Rule.{none-under-way, slot-entry, pick-least, late-none, none-late, not-late-then, then-not-late, moved-length, run-length, run-on-ring, run-less, state-length, state-on-ring}
+use Rattle.slack.proofs.Rule.{
+  none-under-way,
+  slot-entry,
+  pick-least,
+  late-none,
+  none-late,
+  not-late-then,
+  then-not-late,
+  moved-length,
+  run-length,
+  run-on-ring,
+  run-less,
+  state-length,
+  state-on-ring,
+}
 use Rattle.optimal.specs.Schedule.{Schedule, Legal, Meets, namedIn, leftAt}
-use Rattle.optimal.proofs.Count.{count-none}
+use Rattle.optimal.proofs.Count.{Decided, count-none}
 use Rattle.optimal.proofs.Window.{must, window-on-time, window-before, window-after}
 use Rattle.optimal.proofs.Round.{nodeOf, linksFrom, ring-way}
 use Rattle.optimal.proofs.Plan.{plan-length, plan-names, plan-state}
 use Rattle.optimal.proofs.Slots.{links, dueOf, RingWindow, slot-step, rule-least-first}
 
 module _ (T : Traffic) where
-  -- The window before a slot, whatever it names, and the window after a slot of the rule.
+  -- The window before a slot, whatever it names.
   ring-window-before : (t : ℕ) (slot left : List ℕ) → OnRing T left → RingWindow T (suc t) (moved T slot left)
-      → ((i : ℕ) → i < length left → 0 < getD left i 0 → getD (moved T slot left) i 0 ≡ 0 → t < getD (T .due) i 0) → RingWindow T t left
+      → ((i : ℕ) → i < length left → 0 < getD left i 0 → getD (moved T slot left) i 0 ≡ 0 → t < dueOf T i)
+      → RingWindow T t left
   ring-window-before t slot left ring window delivered =
       window-before (length left) (T .nodes) (λ i. T .nodes) (nodeOf T) (linksFrom T) (dueOf T) (ring-way T left ring)
-      t (links left) (links (moved T slot left)) (ring .left-inside) (slot-step T slot left) (rw (moved-length T slot left) at window) delivered
+      t (links left) (links (moved T slot left)) (ring .left-inside) (slot-step T slot left)
+      (rw (moved-length T slot left) at window) delivered
 
-  ring-window-after : (t : ℕ) (left : List ℕ) → OnRing T left → RingWindow T t left → RingWindow T (suc t) (moved T (slotOf T t left) left)
+  -- The window after a slot of the rule.
+  ring-window-after : (t : ℕ) (left : List ℕ) → OnRing T left → RingWindow T t left
+      → RingWindow T (suc t) (moved T (slotOf T t left) left)
   ring-window-after t left ring window =
-      rw (moved-length T (slotOf T t left) left)
+      let slot = slotOf T t left in
+      rw (moved-length T slot left)
       (window-after (length left) (T .nodes) (λ i. T .nodes) (nodeOf T) (linksFrom T) (dueOf T) (ring-way T left ring)
-      t (links left) (links (moved T (slotOf T t left) left)) (ring .left-inside) (slot-step T (slotOf T t left) left) (rule-least-first T t left ring) window)
+      t (links left) (links (moved T slot left)) (ring .left-inside) (slot-step T slot left)
+      (rule-least-first T t left ring) window)
 
   -- Where the window holds no row is late.
   window-not-late : (t : ℕ) (left : List ℕ) → OnRing T left → RingWindow T t left → lateRow T t left ≡ 0
-  window-not-late t left ring window =
-      none-late T t left (λ i known. then-not-late T t left i
-      (window-on-time (length left) (T .nodes) (λ i. T .nodes) (nodeOf T) (linksFrom T) (dueOf T) (ring-way T left ring) t (links left) (ring .left-inside) window i known))
+  window-not-late t left ring window = none-late T t left (λ i known. then-not-late T t left i (on-time i known))
+    where
+      on-time : (i : ℕ) → i < length left → 0 < getD left i 0 → t + getD left i 0 ≤ dueOf T i
+      on-time =
+          window-on-time (length left) (T .nodes) (λ i. T .nodes) (nodeOf T) (linksFrom T) (dueOf T)
+          (ring-way T left ring) t (links left) (ring .left-inside) window
 
   -- Where all is delivered the window holds: nothing has a link to cross.
-  window-delivered : (t : ℕ) (left : List ℕ) → OnRing T left → ((i : ℕ) → i < length left → getD left i 0 ≡ 0) → RingWindow T t left
-  window-delivered t left ring done p k b inside =
-      omega (
-        arith,
-        count-none (must (length left) (T .nodes) (λ i. T .nodes) (nodeOf T) (linksFrom T) (dueOf T) (links left) p k b) (length left) (λ i known m.
-            omega (arith, done i known, ring-way T left ring .positive p i inside known)),
-      )
+  window-delivered : (t : ℕ) (left : List ℕ) → OnRing T left → ((i : ℕ) → i < length left → getD left i 0 ≡ 0)
+      → RingWindow T t left
+  window-delivered t left ring done p k b inside = omega (arith, count-none ring-must (length left) none)
+    where
+      ring-must : Decided (λ i. (k + linksFrom T p i ≤ getD left i 0) × (dueOf T i < b + linksFrom T p i))
+      ring-must =
+          must (length left) (T .nodes) (λ i. T .nodes) (nodeOf T) (linksFrom T) (dueOf T) (links left) p k b
+
+      none : (i : ℕ) → i < length left → (k + linksFrom T p i ≤ getD left i 0) × (dueOf T i < b + linksFrom T p i) → ⊥
+      none i known m = omega (arith, done i known, ring-way T left ring .positive p i inside known)
 
 -- ---- a schedule that meets the table
 
@@ -60,23 +86,26 @@ module _ (T : Traffic) (start schedule : List ℕ) where
   unfolding leftAt
   left-on-ring = run-on-ring T (leftAt T start schedule) (namedIn T schedule) (λ t. refl)
 
-  left-less : (i : ℕ) → i < length start → (t s : ℕ) → t ≤ s → getD (leftAt T start schedule s) i 0 ≤ getD (leftAt T start schedule t) i 0
+  left-less : (i : ℕ) → i < length start → (t s : ℕ) → t ≤ s
+      → getD (leftAt T start schedule s) i 0 ≤ getD (leftAt T start schedule t) i 0
   unfolding leftAt
   left-less = run-less T (leftAt T start schedule) (namedIn T schedule) (λ t. refl)
 
   -- A row that is under way at instant t is delivered later, and no later than its due slot.
-  due-later : Meets T start schedule → (i t : ℕ) → i < length start → 0 < getD (leftAt T start schedule t) i 0 → t < getD (T .due) i 0
+  due-later : Meets T start schedule → (i t : ℕ) → i < length start
+      → 0 < getD (leftAt T start schedule t) i 0 → t < getD (T .due) i 0
   unfolding Meets
   due-later meets i t known under-way =
       let met = meets i known in
       by-contra (suc t) (getD (T .due) i 0) (λ late. omega (arith, left-less i known (met .0) t (omega arith)))
 
   -- The window holds at each instant of the schedule, from its end backward.
-  window-of-schedule : OnRing T start → (slots : ℕ) → ((i : ℕ) → i < length start → getD (T .due) i 0 ≤ slots) → Meets T start schedule
-      → (m t : ℕ) → t + m ≡ slots → RingWindow T t (leftAt T start schedule t)
+  window-of-schedule : OnRing T start → (slots : ℕ) → ((i : ℕ) → i < length start → getD (T .due) i 0 ≤ slots)
+      → Meets T start schedule → (m t : ℕ) → t + m ≡ slots → RingWindow T t (leftAt T start schedule t)
   unfolding leftAt
   window-of-schedule ring slots dues meets zero t e =
-      window-delivered T t (leftAt T start schedule t) (left-on-ring ring t) (λ i l. delivered i (omega (arith, left-length t)))
+      window-delivered T t (leftAt T start schedule t) (left-on-ring ring t)
+      (λ i l. delivered i (omega (arith, left-length t)))
     where
       delivered : (i : ℕ) → i < length start → getD (leftAt T start schedule t) i 0 ≡ 0
       delivered i known = go (decLt 0 (getD (leftAt T start schedule t) i 0))
@@ -91,7 +120,8 @@ module _ (T : Traffic) (start schedule : List ℕ) where
 
 -- ---- the theorems
 
-module _ {T : Traffic} {start : List ℕ} {slots : ℕ} (ring : OnRing T start) (dues : (i : ℕ) → i < length start → getD (T .due) i 0 ≤ slots) where
+module _ {T : Traffic} {start : List ℕ} {slots : ℕ}
+    (ring : OnRing T start) (dues : (i : ℕ) → i < length start → getD (T .due) i 0 ≤ slots) where
   -- Where some schedule meets the table, no row of the rule's run is late at any instant.
   pub never-late : {schedule : List ℕ} → Schedule T start slots schedule → (t : ℕ) → lateRow T t (stateAt T start t) ≡ 0
   unfolding leftAt stateAt
@@ -118,7 +148,8 @@ module _ {T : Traffic} {start : List ℕ} {slots : ℕ} (ring : OnRing T start) 
       legal = unfold Legal in λ t p i l inside named.
           let left = stateAt T start t in
           let slot-names = ap (λ slot. getD slot p 0) (plan-names T start slots t l) in
-          let best = pick-least T t left p (length left) i (sym (slot-entry T t left p inside) ∙ sym slot-names ∙ named) in
+          let picked = sym (slot-entry T t left p inside) ∙ sym slot-names ∙ named in
+          let best = pick-least T t left p (length left) i picked in
           rw (plan-state T start slots t (omega arith))
           (omega (arith, best .inside, best .stands .under-way, best .stands .here, state-length T start t))
 
@@ -143,7 +174,8 @@ module _ {T : Traffic} {start : List ℕ} {slots : ℕ} (ring : OnRing T start) 
               rw e (none-under-way (stateAt T start end) (stop-delivered T start slots dues on-time) i)
           go (no d) =
               let left = stateAt T start (when i) in
-              let not-late = late-none T (when i) left (none (when i) (omega arith)) i (omega (arith, state-length T start (when i))) in
+              let inside : i < length left = omega (arith, state-length T start (when i)) in
+              let not-late = late-none T (when i) left (none (when i) (omega arith)) i inside in
               delivered (getD left i 0) (λ under-way. omega (arith, not-late-then T (when i) left i not-late under-way))
             where
               delivered : (l : ℕ) → (0 < l → when i + l ≤ when i) → l ≡ 0

@@ -1,4 +1,5 @@
--- Whether a list is a legal schedule, and whether it meets its table, can be computed: each test says just what its definition says.
+-- Whether a list is a legal schedule, and whether it meets its table, can be computed: each test says just what its
+-- definition says.
 --     legal-decided, legalb, legalb-iff      of `Legal`
 --     meets-decided, meetsb, meetsb-iff      of `Meets`
 -- Each decision is put together from the parts of the definition as it stands, whatever numbers these compare.
@@ -50,7 +51,8 @@ all-three (yes a) (no b) c = no (λ h. b (h .1))
 all-three (no a) b c = no (λ h. a (h .0))
 
 -- Is there a number with two properties, where all that have the first lie below k?
-unfoldable pub some-below : {P Q : ℕ → Type 0} (k : ℕ) → ((i : ℕ) → P i → i < k) → Decided P → Decided Q → Dec ((i : ℕ) × P i × Q i)
+unfoldable pub some-below : {P Q : ℕ → Type 0} (k : ℕ) → ((i : ℕ) → P i → i < k) → Decided P → Decided Q
+    → Dec ((i : ℕ) × P i × Q i)
 some-below k small d e =
     alike (λ h. (h .0, h .2 .0, h .2 .1)) (λ h. (h .0, small (h .0) (h .1), (h .1, h .2)))
     (find k (λ i. both-decided (d i) (e i)))

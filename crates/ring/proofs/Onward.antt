@@ -1,6 +1,6 @@
--- From one node on to another: 1 to n links, a full turn where the two are one node. All rows go round the ring the same way.
+-- From one node on to another: 1 to n links, a full turn where the two are one node. All rows go round the same way.
 --     on-to-positive, on-to-away, on-to-only     a row stands at p exactly while it has so many links to go
---     same-way                                   where q lies k links before p on the way to one node, it does on the way to each
+--     same-way                                   what lies k links before p on one way does on each
 -- Assumes nothing.
 use mathlib.Core.Path.{_≡_, _∙_}
 use Prim.Native.Nat.{ℕ, _+_, _-_, _%_, _≤_, _<_}

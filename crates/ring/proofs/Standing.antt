@@ -48,13 +48,15 @@ one-link-on n q l inside some far = go (decLe l q) (decLe (l - 1) q)
     go : Dec (l ≤ q) → Dec (l - 1 ≤ q) → standing n q (l - 1) ≡ (standing n q l + 1) % n
     go (yes a) b =
         let on : q - l + 1 < n = omega arith in
-        rw (short-of-zero n l q a inside) (omega (arith, mod-eq-of-lt on, short-of-zero n (l - 1) q (omega arith) inside))
+        let next = short-of-zero n (l - 1) q (omega arith) inside in
+        rw (short-of-zero n l q a inside) (omega (arith, mod-eq-of-lt on))
     go (no a) (yes b) =
         let at-0 = one-turn n (q + n - l + 1) (omega arith) (omega arith) in
         rw (past-zero n l q (omega arith) far) (omega (arith, short-of-zero n (l - 1) q b inside))
     go (no a) (no b) =
         let on : q + n - l + 1 < n = omega arith in
-        rw (past-zero n l q (omega arith) far) (omega (arith, mod-eq-of-lt on, past-zero n (l - 1) q (omega arith) (omega arith)))
+        let next = past-zero n (l - 1) q (omega arith) (omega arith) in
+        rw (past-zero n l q (omega arith) far) (omega (arith, mod-eq-of-lt on))
 
 -- A distance is less than a whole turn.
 pub distance-below : (n p q : ℕ) → q < n → distance n p q < n
