@@ -31,10 +31,18 @@ use Rattle.planner.specs.Planner.{trafficOf, theArrivals, quotient, summ
 use Rattle.planner.proofs.Answering.{arrivals-long}
 use Rattle.planner.proofs.Good.{soon}
 use Rattle.planner.proofs.Judged.{sound}
-use Rattle.planner.proofs.Promises.{tabled, all-good, table-on-ring, accepted-with, distances-long, last-above-zero}
+use Rattle.planner.proofs.Promises.{
+  tabled,
+  all-good,
+  table-on-ring,
+  accepted-with,
+  distances-long,
+  last-above-zero,
+}
 use Rattle.planner.proofs.Seen.{accepted-is-plannable}
 
--- The whole number a is exact as a 64-bit float: the float is finite, has no minus sign and is just a, and a comes back from it.
+-- The whole number a is exact as a 64-bit float: the float is finite, has no minus sign and is just a, and a comes
+-- back from it.
 pub record Exact (a : ℕ) : Type 0 where
   pub value : HasValue (ofInt binary64 (pos a)) false a 1
   pub back : toUnsigned 64 (ofInt binary64 (pos a)) ≡ a
@@ -58,7 +66,8 @@ one-fraction m n e d some = rw (ne-eqb n 0 some)
 pub rounded-once : (a b : ℕ) → Exact a → Exact b → 0 < b → quotient a b ≡ round binary64 false a b
 unfolding quotient
 rounded-once a b exact-a exact-b some =
-    rw (ne-eqb b 0 (λ e. omega arith)) (go (ofInt binary64 (pos a)) (ofInt binary64 (pos b)) (exact-a .value) (exact-b .value))
+    rw (ne-eqb b 0 (λ e. omega arith))
+    (go (ofInt binary64 (pos a)) (ofInt binary64 (pos b)) (exact-a .value) (exact-b .value))
   where
     crosswise : (x e y d : ℕ) → x * 1 ≡ a * e → y * 1 ≡ b * d → x * d * b ≡ a * (y * e)
     crosswise x e y d p q =

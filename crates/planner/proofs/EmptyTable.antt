@@ -16,7 +16,8 @@ use Rattle.optimal.specs.Schedule.{Legal, Meets}
 use Rattle.planner.specs.declared.Summary.{Summary}
 use Rattle.planner.specs.Planner.{ScheduleOf, thePlan, theArrivals, quotient, summaryOf, theSummary}
 
--- On whatever ring, the empty list is a legal schedule of no slots, and brings every row of an empty table there in time.
+-- On whatever ring, the empty list is a legal schedule of no slots, and brings every row of an empty table there in
+-- time.
 pub empty-schedule : (n : ℕ) → ScheduleOf n [] []
 unfolding Legal Meets largest dues distances lastDue
 empty-schedule n =

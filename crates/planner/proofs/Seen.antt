@@ -52,13 +52,15 @@ use Rattle.planner.proofs.Promises.{
 }
 
 -- A refusal of the table has a number other than 0.
-row-refused : (n : ℕ) (rows : List Row) (above : ℕ) (x : Refusal) → judgeRows n rows above ≡ verdict.Refused x → x .number ≡ 0 → ⊥
+row-refused : (n : ℕ) (rows : List Row) (above : ℕ) (x : Refusal)
+    → judgeRows n rows above ≡ verdict.Refused x → x .number ≡ 0 → ⊥
 unfolding judgeRows
 row-refused n [] above x e z = never-good x (sym e)
 row-refused n (r ∷ rows) above x e z = go (eqb (rowRefusal n r) 0) refl e (row-refused n rows (suc above) x)
   where
     go : (b : Bool) → eqb (rowRefusal n r) 0 ≡ b
-        → cond b (judgeRows n rows (suc above)) (verdict.Refused (refuse (rowRefusal n r) (suc above) 0)) ≡ verdict.Refused x
+        → cond b (judgeRows n rows (suc above)) (verdict.Refused (refuse (rowRefusal n r) (suc above) 0))
+        ≡ verdict.Refused x
         → (judgeRows n rows (suc above) ≡ verdict.Refused x → x .number ≡ 0 → ⊥) → ⊥
     go true f h rest = rest h z
     go false f h rest =
@@ -70,7 +72,8 @@ unfolding judge
 table-refused n rows x e z = go (ltb n 2 || ltb 32 n) (ltb most-rows (length rows)) e
   where
     go : (a b : Bool)
-        → cond a (verdict.Refused (refuse 1 0 0)) (cond b (verdict.Refused (refuse 2 0 0)) (judgeRows n rows 0)) ≡ verdict.Refused x → ⊥
+        → cond a (verdict.Refused (refuse 1 0 0)) (cond b (verdict.Refused (refuse 2 0 0)) (judgeRows n rows 0))
+        ≡ verdict.Refused x → ⊥
     go true b h = let number : _≡_ {A = ℕ} 1 (x .number) = cc in omega arith
     go false true h = let number : _≡_ {A = ℕ} 2 (x .number) = cc in omega arith
     go false false h = row-refused n rows 0 x h z
@@ -88,7 +91,8 @@ module _ {n : ℕ} {rows : List Row} {plan arrivals plan′ arrivals′ : List �
           (Refused (refuse 9 (ending n rows .row) (ending n rows .slot .0)))
 
       room : (a : Bool) → ltb (length plan) (planRoom n rows) ≡ a → (b : Bool) → ltb (length arrivals) (length rows) ≡ b
-          → judge n rows ≡ verdict.Good → numberOf (cond a (Refused (refuse 7 0 0)) (cond b (Refused (refuse 8 0 0)) rest)) ≡ 0
+          → judge n rows ≡ verdict.Good
+          → numberOf (cond a (Refused (refuse 7 0 0)) (cond b (Refused (refuse 8 0 0)) rest)) ≡ 0
           → Plannable n rows plan arrivals
       room true f b g well z = absurd (omega arith)
       room false f true g well z = absurd (omega arith)
@@ -100,7 +104,8 @@ module _ {n : ℕ} {rows : List Row} {plan arrivals plan′ arrivals′ : List �
           }
 
       by-verdict : (v : Verdict) → judge n rows ≡ v
-          → numberOf (afterVerdict v (answerToRows n rows (length plan) (length arrivals))) ≡ 0 → Plannable n rows plan arrivals
+          → numberOf (afterVerdict v (answerToRows n rows (length plan) (length arrivals))) ≡ 0
+          → Plannable n rows plan arrivals
       by-verdict verdict.Good e z =
           room (ltb (length plan) (planRoom n rows)) refl (ltb (length arrivals) (length rows)) refl e z
       by-verdict (verdict.Refused x) e z = absurd (table-refused n rows x e z)
@@ -113,9 +118,11 @@ module _ {n : ℕ} {rows : List Row} {plan arrivals plan′ arrivals′ : List �
 
   -- Entry t × N + p of an accepted plan is the row that the rule picks at p at instant t.
   pub entry-is-pick : (t p : ℕ) → t < lastDue rows → p < n
-      → getD plan′ (t * n + p) 0 ≡ pick (trafficOf n rows) t (stateAt (trafficOf n rows) (distances n rows) t) p (length rows)
+      → getD plan′ (t * n + p) 0
+      ≡ pick (trafficOf n rows) t (stateAt (trafficOf n rows) (distances n rows) t) p (length rows)
   entry-is-pick t p early inside =
-      let used : t * n + p < planRoom n rows = omega (arith, entry-inside n (lastDue rows) t p early inside, mul-comm (lastDue rows) n) in
+      let before-end = entry-inside n (lastDue rows) t p early inside in
+      let used : t * n + p < planRoom n rows = omega (arith, mul-comm (lastDue rows) n) in
       sym (getD-take (planRoom n rows) plan′ (t * n + p) 0 used)
       ∙ ap (λ front. getD front (t * n + p) 0) (the-plan-is accepted-is-plannable out accepted)
       ∙ plan-entry T start (lastDue rows) t p early inside ∙ ap (pick T t (stateAt T start t) p) (distances-long n rows)
@@ -131,14 +138,16 @@ module _ {n : ℕ} {rows : List Row} {plan arrivals plan′ arrivals′ : List �
       ap (λ area. getD area i 0) filled ∙ List·getD-append given (drop (length given) arrivals) 0 i inside
       ∙ getD-build (length start) (λ j. deliveredFrom T start j (lastDue rows) 0) i 0 known
 
-  -- Each arrival is the instant at which the plan that is seen delivers its row: it has no link to go then, and some before.
+  -- Each arrival is the instant at which the plan that is seen delivers its row: it has no link to go then, and some
+  -- before.
   pub arrivals-are-deliveries : (i : ℕ) → i < length rows
       → Delivered (trafficOf n rows) (distances n rows) (take (planRoom n rows) plan′) i (getD arrivals′ i 0)
   arrivals-are-deliveries i known =
       let inside : i < length start = omega (arith, distances-long n rows) in
       let k = accepted-is-plannable in
+      let dues-in-time = due-in-time n rows (k .well-formed) in
       rw (the-plan-is k out accepted, its-arrival i inside)
-      (plan-delivers T start (lastDue rows) (due-in-time n rows (k .well-formed)) (accepted-then k out accepted) i inside)
+      (plan-delivers T start (lastDue rows) dues-in-time (accepted-then k out accepted) i inside)
 
   -- No arrival lies after its row's due slot.
   pub arrives-in-time : (i : ℕ) → i < length rows → getD arrivals′ i 0 ≤ getD (dues rows) i 0
@@ -147,4 +156,5 @@ module _ {n : ℕ} {rows : List Row} {plan arrivals plan′ arrivals′ : List �
       let inside : i < length start = omega (arith, distances-long n rows) in
       let met = accepted-plan-is-a-schedule accepted-is-plannable out accepted .meets i inside in
       let first = arrivals-are-deliveries i known in
-      by-contra (getD arrivals′ i 0) (getD (dues rows) i 0) (λ late. omega (arith, first .not-before (met .0) (omega arith)))
+      by-contra (getD arrivals′ i 0) (getD (dues rows) i 0)
+      (λ late. omega (arith, first .not-before (met .0) (omega arith)))

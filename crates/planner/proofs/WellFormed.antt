@@ -40,7 +40,8 @@ all-let-through : (n : ℕ) (rows : List Row) (above : ℕ) → ((i : ℕ) → i
 unfolding judgeRows
 all-let-through n [] above good = refl
 all-let-through n (r ∷ rows) above good =
-    rw (nothing-wrong n r (good 0 (omega arith))) (all-let-through n rows (suc above) (λ i l. good (suc i) (omega arith)))
+    rw (nothing-wrong n r (good 0 (omega arith)))
+    (all-let-through n rows (suc above) (λ i l. good (suc i) (omega arith)))
 
 -- A table is well-formed exactly if the conditions hold of it.
 pub well-formed-iff : (n : ℕ) (rows : List Row) → WellFormed n rows ↔ Conditions n rows
