@@ -1,6 +1,7 @@
 pub mod Count
 pub mod Tests
 mod Cases
+pub mod Moving
 pub mod Plan
 pub mod Deliveries
 pub mod Window

@@ -5,7 +5,7 @@
 -- Assumes nothing.
 use mathlib.Core.Path.{_≡_, refl, _∙_, ap, sym}
 use mathlib.Core.Logic.{_↔_}
-use Prim.Native.Nat.{ℕ, zero, suc, _+_, _≤_, _<_, min}
+use Prim.Native.Nat.{ℕ, zero, suc, _+_, _*_, _≤_, _<_, min}
 use native.Mathlib.Omega.{arith, by-contra}
 use native.Mathlib.Decide.{decLt}
 use mathlib.Core.List.{List}
@@ -136,13 +136,16 @@ module _ {T : Traffic} {start : List ℕ} {slots : ℕ}
 
   -- The plan of a run that ends with no late row is legal and meets the table.
   pub plan-is-schedule : stopOf T start slots .row ≡ 0 → Schedule T start slots (planOf T start slots)
-  plan-is-schedule on-time = record { entries = plan-length T start slots; legal = legal; meets = meets }
+  plan-is-schedule on-time = record { entries = omega (arith, entries); legal = legal; meets = meets }
     where
       plan : List ℕ
       plan = planOf T start slots
 
       end : ℕ
       end = stopOf T start slots .slot .0
+
+      entries : length plan ≡ slots * T .nodes
+      entries = plan-length T start slots
 
       legal : Legal T start slots plan
       legal = unfold Legal in λ t p i l inside named.

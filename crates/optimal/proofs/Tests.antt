@@ -2,6 +2,7 @@
 -- definition says.
 --     legal-decided, legalb, legalb-iff      of `Legal`
 --     meets-decided, meetsb, meetsb-iff      of `Meets`
+--     schedule-decided                       of `Schedule`, which has both
 -- Each decision is put together from the parts of the definition as it stands, whatever numbers these compare.
 -- Assumes nothing.
 use mathlib.Core.Path.{_≡_, refl}
@@ -13,7 +14,7 @@ use mathlib.Core.Bool.{Bool, true, decide, decide-iff}
 use mathlib.Core.List.{List}
 use lib.ListN.{length, getD}
 use Rattle.slack.specs.Slack.{Traffic}
-use Rattle.optimal.specs.Schedule.{Legal, Meets, namedIn}
+use Rattle.optimal.specs.Schedule.{Schedule, Legal, Meets, namedIn}
 use Rattle.optimal.proofs.Count.{Decided, find, both-decided}
 
 -- Two statements that follow from each other are decided alike.
@@ -69,7 +70,12 @@ module _ (T : Traffic) (start : List ℕ) where
   unfolding Meets
   meets-decided schedule =
       all-below (length start) (λ i.
-      some-below (suc (getD (T .due) i 0)) (λ t h. omega arith) (λ t. decLe _ _) (λ t. ℕ-discrete _ _))
+      some-below (suc (suc (getD (T .due) i 0))) (λ t h. omega arith) (λ t. decLe _ _) (λ t. ℕ-discrete _ _))
+
+  unfoldable pub schedule-decided : (slots : ℕ) (schedule : List ℕ) → Dec (Schedule T start slots schedule)
+  schedule-decided slots schedule =
+      alike (λ h. record { entries = h .0; legal = h .1; meets = h .2 }) (λ s. (s .entries, s .legal, s .meets))
+      (all-three (ℕ-discrete _ _) (legal-decided slots schedule) (meets-decided schedule))
 
   -- The test of a legal schedule, and that it is one.
   unfoldable pub legalb : (slots : ℕ) (schedule : List ℕ) → Bool
