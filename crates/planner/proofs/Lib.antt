@@ -5,6 +5,7 @@ pub mod Judged
 pub mod Promises
 pub mod WellFormed
 pub mod EmptyTable
+pub mod Starting
 pub mod Seen
 pub mod Divided
 mod Cases
