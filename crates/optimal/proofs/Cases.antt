@@ -2,12 +2,11 @@
 -- the list of cases.
 -- A definition of `Legal`, `Meets` or `Schedule` that said less, or more, of them would give another list.
 -- Assumes nothing.
-use mathlib.Core.Path.{_≡_, refl, ap}
+use mathlib.Core.Path.{_≡_, refl}
 use Prim.Native.Nat.{ℕ}
 use native.Mathlib.Decide.{ℕ-discrete, decLe, decLt}
 use mathlib.Core.Bool.{Bool, true, false, decide}
 use mathlib.Core.List.{List, [], _∷_, map}
-use lib.ListN.{length}
 use Rattle.lists.specs.Lists.{largest}
 use Rattle.ring.specs.Ring.{distance, standing}
 use Rattle.slack.specs.Slack.{Traffic, traffic, place, moved}

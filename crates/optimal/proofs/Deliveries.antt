@@ -2,7 +2,7 @@
 --     delivered-first       the instant found for a row is the first at which it has no link to go
 --     plan-delivers         in the run of the plan itself, where no row is late
 -- Assumes nothing.
-use mathlib.Core.Path.{_≡_, refl, _∙_, ap, sym}
+use mathlib.Core.Path.{_≡_, refl}
 use Prim.Native.Nat.{ℕ, zero, suc, _+_, _≤_, _<_}
 use native.Mathlib.Omega.{arith}
 use native.Mathlib.Decide.{decLt}

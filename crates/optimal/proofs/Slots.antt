@@ -1,7 +1,7 @@
 -- A slot of a schedule, on lists, is a step of the window's theory, and a slot of the rule is one of least slack
 -- first.
 -- Assumes nothing.
-use mathlib.Core.Path.{_≡_, refl, _∙_, ap, sym}
+use mathlib.Core.Path.{_≡_, refl, _∙_, ap}
 use Prim.Native.Nat.{ℕ, zero, suc, _<_}
 use native.Mathlib.Omega.{arith}
 use mathlib.Core.List.{List}

@@ -3,8 +3,8 @@
 --     divided-exactly       the four numbers of an acceptance are, and its two figures are their quotients
 --     rounded-once          a quotient of such numbers is the float nearest to the fraction itself
 -- Assumes nothing.
-use mathlib.Core.Path.{_≡_, refl, _∙_, ap, sym}
-use Prim.Native.Nat.{ℕ, _+_, _*_, _^_, _≤_, _<_}
+use mathlib.Core.Path.{_≡_, refl, _∙_, sym}
+use Prim.Native.Nat.{ℕ, _*_, _^_, _≤_, _<_}
 use native.Mathlib.Nat.{mul-le-mul, mul-one, mul-assoc, mul-comm, mul-pos}
 use native.Mathlib.Omega.{arith}
 use mathlib.Core.Bool.{Bool, true, false, true≢false}

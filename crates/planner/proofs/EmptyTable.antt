@@ -8,7 +8,7 @@ use mathlib.Core.Path.{_≡_, refl}
 use Prim.Native.Nat.{ℕ, _≤_}
 use native.Mathlib.Nat.{mul-zero}
 use native.Mathlib.Omega.{arith}
-use mathlib.Core.List.{List, []}
+use mathlib.Core.List.{[]}
 use borrow.Author.Tests.{le-ltb}
 use lib.Ieee.{binary64, ofBits}
 use Rattle.lists.specs.Lists.{total, largest}
