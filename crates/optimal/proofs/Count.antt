@@ -39,7 +39,7 @@ tally-within (yes p) e f = omega (arith, tally-one e (f p))
 tally-within (no p) e f = omega arith
 
 -- Is there a number below k with the property?
-pub find : {P : ℕ → Type 0} (k : ℕ) → Decided P → Dec ((i : ℕ) × (i < k) × P i)
+unfoldable pub find : {P : ℕ → Type 0} (k : ℕ) → Decided P → Dec ((i : ℕ) × (i < k) × P i)
 find zero d = no (λ h. not-suc-le-zero (h .1))
 find {P} (suc k) d = go (d k) (find k d)
   where
@@ -64,18 +64,22 @@ module _ {P Q : ℕ → Type 0} (d : Decided P) (e : Decided Q) where
   count-lacking zero x f l q p = absurd (not-suc-le-zero l)
   count-lacking (suc k) x f l q p = go (ℕ-discrete x k) (count-lacking k x (λ i m. f i (omega arith)))
     where
-      go : Dec (x ≡ k) → (x < k → Q x → (P x → ⊥) → count k d < count k e) → tally (d k) + count k d < tally (e k) + count k e
+      go : Dec (x ≡ k) → (x < k → Q x → (P x → ⊥) → count k d < count k e)
+          → tally (d k) + count k d < tally (e k) + count k e
       go (yes s) rest =
-          omega (arith, tally-one (e k) (rw s at q), tally-none (d k) (rw s at p), count-within k (λ i m. f i (omega arith)))
+          let below = count-within k (λ i m. f i (omega arith)) in
+          omega (arith, tally-one (e k) (rw s at q), tally-none (d k) (rw s at p))
       go (no s) rest = omega (arith, tally-within (d k) (e k) (f k (omega arith)), rest (omega arith) q p)
 
   -- All that have the first property and lack the second are one and the same number.
-  pub count-but-one : (k : ℕ) → ((i j : ℕ) → i < k → j < k → P i → P j → (Q i → ⊥) → (Q j → ⊥) → i ≡ j) → count k d ≤ suc (count k e)
+  pub count-but-one : (k : ℕ) → ((i j : ℕ) → i < k → j < k → P i → P j → (Q i → ⊥) → (Q j → ⊥) → i ≡ j)
+      → count k d ≤ suc (count k e)
   unfolding count
   count-but-one zero f = omega arith
   count-but-one (suc k) f = go (d k) (e k) (count-but-one k (λ i j l m. f i j (omega arith) (omega arith)))
     where
-      go : (a : Dec (P k)) (b : Dec (Q k)) → count k d ≤ suc (count k e) → tally a + count k d ≤ suc (tally b + count k e)
+      go : (a : Dec (P k)) (b : Dec (Q k)) → count k d ≤ suc (count k e)
+          → tally a + count k d ≤ suc (tally b + count k e)
       go (yes p) (yes q) rest = omega (arith, tally-one (yes p) p, tally-one (yes q) q)
       go (yes p) (no q) rest = omega (arith, tally-one (yes p) p, count-within k (λ i l r. before i l r (e i)))
         where
@@ -93,7 +97,7 @@ unfolding count
 count-none d zero f = refl
 count-none d (suc k) f = omega (arith, tally-none (d k) (f k (omega arith)), count-none d k (λ i l. f i (omega arith)))
 
-pub both-decided : {A B : Type 0} → Dec A → Dec B → Dec (A × B)
+unfoldable pub both-decided : {A B : Type 0} → Dec A → Dec B → Dec (A × B)
 both-decided (yes a) (yes b) = yes (a, b)
 both-decided (yes a) (no b) = no (λ h. b (h .1))
 both-decided (no a) b = no (λ h. a (h .0))
@@ -109,16 +113,21 @@ pub count-into : {P : ℕ → Type 0} (d : Decided P) (m : ℕ) (f : ℕ → ℕ
     → count k d ≤ count m e
 unfolding count
 count-into d m f zero e to one = omega arith
-count-into {P} d m f (suc k) {Q} e to one = go (d k) (λ R c g. count-into d m f k {Q = R} c g (λ i j l n. one i j (omega arith) (omega arith)))
+count-into {P} d m f (suc k) {Q} e to one =
+    go (d k) (λ R c g. count-into d m f k {Q = R} c g (λ i j l n. one i j (omega arith) (omega arith)))
   where
     rest : (i : ℕ) → Dec (Q i × (i ≡ f k → ⊥))
     rest i = both-decided (e i) (not-decided (ℕ-discrete i (f k)))
 
-    go : (a : Dec (P k)) → ((R : ℕ → Type 0) (c : Decided R) → ((i : ℕ) → i < k → P i → (f i < m) × R (f i)) → count k d ≤ count m c)
+    go : (a : Dec (P k))
+        → ((R : ℕ → Type 0) (c : Decided R) → ((i : ℕ) → i < k → P i → (f i < m) × R (f i)) → count k d ≤ count m c)
         → tally a + count k d ≤ count m e
     go (yes p) more =
-        let others = more (λ i. Q i × (i ≡ f k → ⊥)) rest (λ i l r. (to i (omega arith) r .0, (to i (omega arith) r .1, λ s. apart i l r s))) in
-        let fewer = count-lacking rest e m (f k) (λ i l r. r .0) (to k (omega arith) p .0) (to k (omega arith) p .1) (λ r. r .1 refl) in
+        let last = to k (omega arith) p in
+        let others =
+        more (λ i. Q i × (i ≡ f k → ⊥)) rest
+        (λ i l r. let sent = to i (omega arith) r in (sent .0, (sent .1, λ s. apart i l r s))) in
+        let fewer = count-lacking rest e m (f k) (λ i l r. r .0) (last .0) (last .1) (λ r. r .1 refl) in
         omega (arith, tally-one (yes p) p)
       where
         apart : (i : ℕ) → i < k → P i → f i ≡ f k → ⊥

@@ -1,4 +1,9 @@
 pub mod Count
+pub mod Tests
+mod Cases
+pub mod Moving
+pub mod Plan
+pub mod Deliveries
 pub mod Window
 pub mod Round
 pub mod Slots

@@ -5,50 +5,76 @@
 -- Assumes nothing.
 use mathlib.Core.Path.{_≡_, refl, _∙_, ap, sym}
 use mathlib.Core.Logic.{_↔_}
-use Prim.Native.Nat.{ℕ, zero, suc, _+_, _*_, _≤_, _<_}
-use native.Mathlib.Nat.{suc-mul, mul-le-mul-right}
-use native.Mathlib.Omega.{arith}
+use Prim.Native.Nat.{ℕ, zero, suc, _+_, _*_, _≤_, _<_, min}
+use native.Mathlib.Omega.{arith, by-contra}
 use native.Mathlib.Decide.{decLt}
-use mathlib.Core.List.{List, _++_}
-use lib.ListN.{length, getD, take, drop, length-drop}
-use lib.Seq.{take-append-le, drop-append-le, drop-at, take-all}
-use Rattle.slack.specs.Slack.{Traffic, OnRing, moved, slotOf, pick, stateAt, planOf, lateRow, stopOf}
+use mathlib.Core.List.{List}
+use lib.ListN.{length, getD}
+use Rattle.slack.specs.Slack.{Traffic, OnRing, moved, slotOf, stateAt, planOf, lateRow, stopOf}
 use Rattle.slack.proofs.Ending.{Ended, stop-first, stop-delivered}
-use Rattle.slack.proofs.Rule.{none-under-way, slot-length, plan-length, slot-entry, pick-least, late-none, none-late, not-late-then, then-not-late, moved-length, run-length, run-on-ring, run-less, state-length, state-on-ring}
+use Rattle.slack.proofs.Rule.{
+  none-under-way,
+  plan-length,
+  slot-entry,
+  pick-least,
+  late-none,
+  none-late,
+  not-late-then,
+  then-not-late,
+  moved-length,
+  run-length,
+  run-on-ring,
+  run-less,
+  state-length,
+  state-on-ring,
+}
 use Rattle.optimal.specs.Schedule.{Schedule, Legal, Meets, namedIn, leftAt}
-use Rattle.optimal.proofs.Count.{count-none}
+use Rattle.optimal.proofs.Count.{Decided, count-none}
 use Rattle.optimal.proofs.Window.{must, window-on-time, window-before, window-after}
-use Rattle.optimal.proofs.Round.{ring-way}
-use Rattle.optimal.proofs.Slots.{links, dueOf, nodeOf, linksFrom, RingWindow, slot-step, rule-least-first}
+use Rattle.optimal.proofs.Round.{nodeOf, linksFrom, ring-way}
+use Rattle.optimal.proofs.Plan.{plan-names, plan-state}
+use Rattle.optimal.proofs.Slots.{links, dueOf, RingWindow, slot-step, rule-least-first}
 
 module _ (T : Traffic) where
-  -- The window before a slot, whatever it names, and the window after a slot of the rule.
+  -- The window before a slot, whatever it names.
   ring-window-before : (t : ℕ) (slot left : List ℕ) → OnRing T left → RingWindow T (suc t) (moved T slot left)
-      → ((i : ℕ) → i < length left → 0 < getD left i 0 → getD (moved T slot left) i 0 ≡ 0 → t < getD (T .due) i 0) → RingWindow T t left
+      → ((i : ℕ) → i < length left → 0 < getD left i 0 → getD (moved T slot left) i 0 ≡ 0 → t < dueOf T i)
+      → RingWindow T t left
   ring-window-before t slot left ring window delivered =
       window-before (length left) (T .nodes) (λ i. T .nodes) (nodeOf T) (linksFrom T) (dueOf T) (ring-way T left ring)
-      t (links left) (links (moved T slot left)) (ring .left-inside) (slot-step T slot left) (rw (moved-length T slot left) at window) delivered
+      t (links left) (links (moved T slot left)) (ring .left-inside) (slot-step T slot left)
+      (rw (moved-length T slot left) at window) delivered
 
-  ring-window-after : (t : ℕ) (left : List ℕ) → OnRing T left → RingWindow T t left → RingWindow T (suc t) (moved T (slotOf T t left) left)
+  -- The window after a slot of the rule.
+  ring-window-after : (t : ℕ) (left : List ℕ) → OnRing T left → RingWindow T t left
+      → RingWindow T (suc t) (moved T (slotOf T t left) left)
   ring-window-after t left ring window =
-      rw (moved-length T (slotOf T t left) left)
+      let slot = slotOf T t left in
+      rw (moved-length T slot left)
       (window-after (length left) (T .nodes) (λ i. T .nodes) (nodeOf T) (linksFrom T) (dueOf T) (ring-way T left ring)
-      t (links left) (links (moved T (slotOf T t left) left)) (ring .left-inside) (slot-step T (slotOf T t left) left) (rule-least-first T t left ring) window)
+      t (links left) (links (moved T slot left)) (ring .left-inside) (slot-step T slot left)
+      (rule-least-first T t left ring) window)
 
   -- Where the window holds no row is late.
   window-not-late : (t : ℕ) (left : List ℕ) → OnRing T left → RingWindow T t left → lateRow T t left ≡ 0
-  window-not-late t left ring window =
-      none-late T t left (λ i known. then-not-late T t left i
-      (window-on-time (length left) (T .nodes) (λ i. T .nodes) (nodeOf T) (linksFrom T) (dueOf T) (ring-way T left ring) t (links left) (ring .left-inside) window i known))
+  window-not-late t left ring window = none-late T t left (λ i known. then-not-late T t left i (on-time i known))
+    where
+      on-time : (i : ℕ) → i < length left → 0 < getD left i 0 → t + getD left i 0 ≤ dueOf T i
+      on-time =
+          window-on-time (length left) (T .nodes) (λ i. T .nodes) (nodeOf T) (linksFrom T) (dueOf T)
+          (ring-way T left ring) t (links left) (ring .left-inside) window
 
   -- Where all is delivered the window holds: nothing has a link to cross.
-  window-delivered : (t : ℕ) (left : List ℕ) → OnRing T left → ((i : ℕ) → i < length left → getD left i 0 ≡ 0) → RingWindow T t left
-  window-delivered t left ring done p k b inside =
-      omega (
-        arith,
-        count-none (must (length left) (T .nodes) (λ i. T .nodes) (nodeOf T) (linksFrom T) (dueOf T) (links left) p k b) (length left) (λ i known m.
-            omega (arith, done i known, ring-way T left ring .positive p i inside known)),
-      )
+  window-delivered : (t : ℕ) (left : List ℕ) → OnRing T left → ((i : ℕ) → i < length left → getD left i 0 ≡ 0)
+      → RingWindow T t left
+  window-delivered t left ring done p k b inside = omega (arith, count-none ring-must (length left) none)
+    where
+      ring-must : Decided (λ i. (k + linksFrom T p i ≤ getD left i 0) × (dueOf T i < b + linksFrom T p i))
+      ring-must =
+          must (length left) (T .nodes) (λ i. T .nodes) (nodeOf T) (linksFrom T) (dueOf T) (links left) p k b
+
+      none : (i : ℕ) → i < length left → (k + linksFrom T p i ≤ getD left i 0) × (dueOf T i < b + linksFrom T p i) → ⊥
+      none i known m = omega (arith, done i known, ring-way T left ring .positive p i inside known)
 
 -- ---- a schedule that meets the table
 
@@ -61,28 +87,26 @@ module _ (T : Traffic) (start schedule : List ℕ) where
   unfolding leftAt
   left-on-ring = run-on-ring T (leftAt T start schedule) (namedIn T schedule) (λ t. refl)
 
-  left-less : (i : ℕ) → i < length start → (t s : ℕ) → t ≤ s → getD (leftAt T start schedule s) i 0 ≤ getD (leftAt T start schedule t) i 0
+  left-less : (i : ℕ) → i < length start → (t s : ℕ) → t ≤ s
+      → getD (leftAt T start schedule s) i 0 ≤ getD (leftAt T start schedule t) i 0
   unfolding leftAt
   left-less = run-less T (leftAt T start schedule) (namedIn T schedule) (λ t. refl)
 
   -- A row that is under way at instant t is delivered later, and no later than its due slot.
-  due-later : Meets T start schedule → (i t : ℕ) → i < length start → 0 < getD (leftAt T start schedule t) i 0 → t < getD (T .due) i 0
+  due-later : Meets T start schedule → (i t : ℕ) → i < length start
+      → 0 < getD (leftAt T start schedule t) i 0 → t < getD (T .due) i 0
   unfolding Meets
-  due-later meets i t known under-way = go (meets i known)
-    where
-      go : (s : ℕ) × (s ≤ getD (T .due) i 0) × (getD (leftAt T start schedule s) i 0 ≡ 0) → t < getD (T .due) i 0
-      go (s, in-time, delivered) = by (decLt t s)
-        where
-          by : Dec (t < s) → t < getD (T .due) i 0
-          by (yes d) = omega arith
-          by (no d) = absurd (omega (arith, left-less i known s t (omega arith)))
+  due-later meets i t known under-way =
+      let met = meets i known in
+      by-contra (suc t) (getD (T .due) i 0) (λ late. omega (arith, left-less i known (met .0) t (omega arith)))
 
   -- The window holds at each instant of the schedule, from its end backward.
-  window-of-schedule : OnRing T start → (slots : ℕ) → ((i : ℕ) → i < length start → getD (T .due) i 0 ≤ slots) → Meets T start schedule
-      → (m t : ℕ) → t + m ≡ slots → RingWindow T t (leftAt T start schedule t)
+  window-of-schedule : OnRing T start → (slots : ℕ) → ((i : ℕ) → i < length start → getD (T .due) i 0 ≤ slots)
+      → Meets T start schedule → (m t : ℕ) → t + m ≡ slots → RingWindow T t (leftAt T start schedule t)
   unfolding leftAt
   window-of-schedule ring slots dues meets zero t e =
-      window-delivered T t (leftAt T start schedule t) (left-on-ring ring t) (λ i l. delivered i (omega (arith, left-length t)))
+      window-delivered T t (leftAt T start schedule t) (left-on-ring ring t)
+      (λ i l. delivered i (omega (arith, left-length t)))
     where
       delivered : (i : ℕ) → i < length start → getD (leftAt T start schedule t) i 0 ≡ 0
       delivered i known = go (decLt 0 (getD (leftAt T start schedule t) i 0))
@@ -95,43 +119,10 @@ module _ (T : Traffic) (start schedule : List ℕ) where
       (window-of-schedule ring slots dues meets m (suc t) (omega arith))
       (λ i l under-way done. due-later meets i t (omega (arith, left-length t)) under-way)
 
--- ---- the rule's own plan
-
-module _ (T : Traffic) (start : List ℕ) where
-  -- What the plan names in slot t is the rule's slot t.
-  plan-names : (slots t : ℕ) → t < slots → namedIn T (planOf T start slots) t ≡ slotOf T t (stateAt T start t)
-  unfolding planOf namedIn
-  plan-names zero t l = absurd (omega arith)
-  plan-names (suc slots) t l = go (decLt t slots) (plan-names slots t)
-    where
-      n : ℕ
-      n = T .nodes
-
-      plan : List ℕ
-      plan = planOf T start slots
-
-      slot : List ℕ
-      slot = slotOf T slots (stateAt T start slots)
-
-      go : Dec (t < slots) → (t < slots → namedIn T plan t ≡ slotOf T t (stateAt T start t))
-          → take n (drop (t * n) (plan ++ slot)) ≡ slotOf T t (stateAt T start t)
-      go (yes d) more =
-          let room : t * n + n ≤ length plan = omega (arith, plan-length T start slots, suc-mul t n, mul-le-mul-right n d) in
-          let rest : n ≤ length (drop (t * n) plan) = omega (arith, length-drop (t * n) plan) in
-          rw (drop-append-le (t * n) plan slot (omega arith), take-append-le n (drop (t * n) plan) slot rest) (more d)
-      go (no d) more =
-          let e : t ≡ slots = omega arith in
-          rw (e, drop-at plan slot (slots * n) (plan-length T start slots), take-all n slot (omega (arith, slot-length T slots (stateAt T start slots))))
-
-  -- So the plan's run is the rule's.
-  plan-state : (slots t : ℕ) → t ≤ slots → leftAt T start (planOf T start slots) t ≡ stateAt T start t
-  unfolding leftAt stateAt
-  plan-state slots zero l = refl
-  plan-state slots (suc t) l = rw (plan-state slots t (omega arith), plan-names slots t l)
-
 -- ---- the theorems
 
-module _ {T : Traffic} {start : List ℕ} {slots : ℕ} (ring : OnRing T start) (dues : (i : ℕ) → i < length start → getD (T .due) i 0 ≤ slots) where
+module _ {T : Traffic} {start : List ℕ} {slots : ℕ}
+    (ring : OnRing T start) (dues : (i : ℕ) → i < length start → getD (T .due) i 0 ≤ slots) where
   -- Where some schedule meets the table, no row of the rule's run is late at any instant.
   pub never-late : {schedule : List ℕ} → Schedule T start slots schedule → (t : ℕ) → lateRow T t (stateAt T start t) ≡ 0
   unfolding leftAt stateAt
@@ -146,7 +137,7 @@ module _ {T : Traffic} {start : List ℕ} {slots : ℕ} (ring : OnRing T start) 
 
   -- The plan of a run that ends with no late row is legal and meets the table.
   pub plan-is-schedule : stopOf T start slots .row ≡ 0 → Schedule T start slots (planOf T start slots)
-  plan-is-schedule on-time = record { entries = plan-length T start slots; legal = legal; meets = meets }
+  plan-is-schedule on-time = record { entries = omega (arith, entries); legal = legal; meets = meets }
     where
       plan : List ℕ
       plan = planOf T start slots
@@ -154,12 +145,17 @@ module _ {T : Traffic} {start : List ℕ} {slots : ℕ} (ring : OnRing T start) 
       end : ℕ
       end = stopOf T start slots .slot .0
 
+      entries : length plan ≡ slots * T .nodes
+      entries = plan-length T start slots
+
       legal : Legal T start slots plan
       legal = unfold Legal in λ t p i l inside named.
           let left = stateAt T start t in
-          let chosen : pick T t left p (length left) ≡ suc i = sym (slot-entry T t left p inside) ∙ ap (λ slot. getD slot p 0) (sym (plan-names T start slots t l)) ∙ named in
-          let best = pick-least T t left p (length left) i chosen in
-          rw (plan-state T start slots t (omega arith)) (omega (arith, best .inside, state-length T start t), best .stands .under-way, best .stands .here)
+          let slot-names = ap (λ slot. getD slot p 0) (plan-names T start slots t l) in
+          let picked = sym (slot-entry T t left p inside) ∙ sym slot-names ∙ named in
+          let best = pick-least T t left p (length left) i picked in
+          rw (plan-state T start slots t (omega arith))
+          (omega (arith, best .inside, best .stands .under-way, best .stands .here, state-length T start t))
 
       -- no row is late up to the end of the run
       none : (t : ℕ) → t ≤ end → lateRow T t (stateAt T start t) ≡ 0
@@ -170,25 +166,32 @@ module _ {T : Traffic} {start : List ℕ} {slots : ℕ} (ring : OnRing T start) 
           go (no d) = let e : t ≡ end = omega arith in rw e (sym (ended .row-is) ∙ on-time)
 
       -- so each row is delivered at the run's end, or at its due slot where that comes before
-      meets : Meets T start plan
-      meets = unfold Meets in λ i known. go i known (decLt end (getD (T .due) i 0))
+      when : ℕ → ℕ
+      when i = min end (getD (T .due) i 0)
+
+      there : (i : ℕ) → i < length start → getD (stateAt T start (when i)) i 0 ≡ 0
+      there i known = go (decLt end (getD (T .due) i 0))
         where
-          go : (i : ℕ) → i < length start → Dec (end < getD (T .due) i 0) → (t : ℕ) × (t ≤ getD (T .due) i 0) × (getD (leftAt T start plan t) i 0 ≡ 0)
-          go i known (yes d) = (
-            end,
-            omega arith,
-            rw (plan-state T start slots end (ended .within))
-                (none-under-way (stateAt T start end) (stop-delivered T start slots dues on-time) i),
-          )
-          go i known (no d) =
-              let t = getD (T .due) i 0 in
-              let left = stateAt T start t in
-              let on-its-way = not-late-then T t left i (late-none T t left (none t (omega arith)) i (omega (arith, state-length T start t))) in
-              (t, omega arith, rw (plan-state T start slots t (dues i known)) (there (getD left i 0) t on-its-way))
+          go : Dec (end < getD (T .due) i 0) → getD (stateAt T start (when i)) i 0 ≡ 0
+          go (yes d) =
+              let e : when i ≡ end = omega arith in
+              rw e (none-under-way (stateAt T start end) (stop-delivered T start slots dues on-time) i)
+          go (no d) =
+              let left = stateAt T start (when i) in
+              let inside : i < length left = omega (arith, state-length T start (when i)) in
+              let not-late = late-none T (when i) left (none (when i) (omega arith)) i inside in
+              delivered (getD left i 0) (λ under-way. omega (arith, not-late-then T (when i) left i not-late under-way))
             where
-              there : (l t : ℕ) → (0 < l → t + l ≤ t) → l ≡ 0
-              there zero t h = refl
-              there (suc l) t h = absurd (omega (arith, h (omega arith)))
+              delivered : (l : ℕ) → (0 < l → when i + l ≤ when i) → l ≡ 0
+              delivered zero h = refl
+              delivered (suc l) h = absurd (omega (arith, h (omega arith)))
+
+      meets : Meets T start plan
+      meets = unfold Meets in λ i known. (
+        when i,
+        omega arith,
+        rw (plan-state T start slots (when i) (omega (arith, dues i known))) (there i known),
+      )
 
   -- The run ends with a late row just where no legal schedule meets the table.
   pub late-iff-none : (stopOf T start slots .row ≡ 0 → ⊥) ↔ ((schedule : List ℕ) → Schedule T start slots schedule → ⊥)

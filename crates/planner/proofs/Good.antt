@@ -14,7 +14,7 @@ use Rattle.lists.specs.Lists.{build, largest}
 use Rattle.lists.proofs.Build.{length-build, getD-build}
 use Rattle.lists.proofs.Figures.{largest-below}
 use Rattle.ring.specs.Ring.{distance}
-use Rattle.ring.proofs.Turn.{apart, within-turn}
+use Rattle.ring.proofs.Standing.{distance-below, apart}
 use Rattle.table.specs.declared.Row.{Row}
 use Rattle.table.specs.declared.Verdict.the-variants.{Good}
 use Rattle.table.specs.Table.{judgeRows, refuse, distances, lastDue}
@@ -30,13 +30,15 @@ use Rattle.planner.specs.Steps.{Runnable, RunPlanned, answerToRun, Table
 use Rattle.planner.proofs.Answering.{arrivals-long}
 
 -- what an area holds that was filled, or cleared, in its front
-filled : (b : Bool) (s : Summary) (row slot m : ℕ) (given part before : List ℕ) → length given ≡ m → part ≡ cond b given (replicate m 0)
+filled : (b : Bool) (s : Summary) (row slot m : ℕ) (given part before : List ℕ)
+    → length given ≡ m → part ≡ cond b given (replicate m 0)
     → part ++ drop m before ≡ areaAfter (cond b (Accepted s) (Refused (refuse 9 row slot))) given before
 unfolding areaAfter
 filled true s row slot m given part before e f = rw (f, e)
 filled false s row slot m given part before e f = rw (f, e)
 
-module _ {n : ℕ} {src dst due : List ℕ} (k : Tabled n src dst due) (good : judgeRows n (rowsOf src dst due) 0 ≡ Good) where
+module _ {n : ℕ} {src dst due : List ℕ}
+    (k : Tabled n src dst due) (good : judgeRows n (rowsOf src dst due) 0 ≡ Good) where
   abbrev rows : List Row
   rows = rowsOf src dst due
 
@@ -51,7 +53,12 @@ module _ {n : ℕ} {src dst due : List ℕ} (k : Tabled n src dst due) (good : j
 
   pub measuring : (left : List ℕ) → length left ≡ length src → Measuring n src dst left
   measuring left e =
-      record { dst-each = k .same .dst-each; left-each = e; src-inside = λ i h. row i h .src-inside; dst-inside = λ i h. row i h .dst-inside }
+      record {
+        dst-each = k .same .dst-each;
+        left-each = e;
+        src-inside = λ i h. row i h .src-inside;
+        dst-inside = λ i h. row i h .dst-inside;
+      }
 
   pub soon : last ≤ 1024
   soon = largest-below 1024 due (λ i h. row i (omega (arith, k .same .due-each)) .due-most)
@@ -65,6 +72,9 @@ module _ {n : ℕ} {src dst due : List ℕ} (k : Tabled n src dst due) (good : j
   start-at : (i : ℕ) → i < length start → (i < length src) × (getD start i 0 ≡ distance n (getD src i 0) (getD dst i 0))
   start-at i h = let l : i < length src = omega (arith, start-long) in (l, getD-build (length src) _ i 0 l)
 
+  less-than-a-turn : (i : ℕ) → i < length src → distance n (getD src i 0) (getD dst i 0) ≤ n
+  less-than-a-turn i h = omega (arith, distance-below n (getD src i 0) (getD dst i 0) (row i h .dst-inside))
+
   pub on-ring : OnRing (traffic n dst due) start
   on-ring =
       record {
@@ -72,7 +82,7 @@ module _ {n : ℕ} {src dst due : List ℕ} (k : Tabled n src dst due) (good : j
         dst-each = k .same .dst-each ∙ sym start-long;
         due-each = k .same .due-each ∙ sym start-long;
         dst-inside = λ i h. row i (start-at i h .0) .dst-inside;
-        left-inside = λ i h. rw (start-at i h .1) (within-turn n (getD src i 0) (getD dst i 0) (row i (start-at i h .0) .dst-inside));
+        left-inside = λ i h. rw (start-at i h .1) (less-than-a-turn i (start-at i h .0));
       }
 
   -- Every row of a well-formed table has links to go.
@@ -122,37 +132,70 @@ module _ {n : ℕ} {src dst due : List ℕ} (k : Tabled n src dst due) (good : j
   plan-room = ap length its-plan ∙ plan-length (traffic n dst due) start last ∙ mul-comm last n
 
   module _ (plan arrivals : List ℕ) where
-    pub short-plan : {r : Answer} → r ≡ Refused (refuse 7 0 0) → length plan < n * last → GoodPlanned n rows plan arrivals r plan arrivals
+    pub short-plan : {r : Answer} → r ≡ Refused (refuse 7 0 0) → length plan < n * last
+        → GoodPlanned n rows plan arrivals r plan arrivals
     unfolding answerToRows areaAfter
-    short-plan e h = rw e (record { answers = rw (its-last, lt-ltb (length plan) (n * last) h); fills-plan = refl; fills-arrivals = refl })
+    short-plan e h =
+        let short = lt-ltb (length plan) (n * last) h in
+        rw e (record { answers = rw (its-last, short); fills-plan = refl; fills-arrivals = refl })
 
-    pub short-arrivals : {r : Answer} → r ≡ Refused (refuse 8 0 0) → n * last ≤ length plan → length arrivals < length src → GoodPlanned n rows plan arrivals r plan arrivals
+    pub short-arrivals : {r : Answer} → r ≡ Refused (refuse 8 0 0)
+        → n * last ≤ length plan → length arrivals < length src → GoodPlanned n rows plan arrivals r plan arrivals
     unfolding answerToRows areaAfter
     short-arrivals e p h =
-        rw e (record { answers = rw (its-last, le-ltb (length plan) (n * last) p, rows-long src dst due, lt-ltb (length arrivals) (length src) h); fills-plan = refl; fills-arrivals = refl })
+        let room = le-ltb (length plan) (n * last) p in
+        let short = lt-ltb (length arrivals) (length src) h in
+        rw e
+        (record {
+          answers = rw (its-last, room, rows-long src dst due, short);
+          fills-plan = refl;
+          fills-arrivals = refl;
+        })
 
-    its-answer : n * last ≤ length plan → length src ≤ length arrivals → answerToRows n rows (length plan) (length arrivals) ≡ answerToRun (traffic n dst due) start (stopOf (traffic n dst due) start last)
+    its-answer : n * last ≤ length plan → length src ≤ length arrivals
+        → answerToRows n rows (length plan) (length arrivals)
+        ≡ answerToRun (traffic n dst due) start (stopOf (traffic n dst due) start last)
     unfolding answerToRows answerToRun theSummary
     its-answer p a =
-        rw (its-last, le-ltb (length plan) (n * last) p, rows-long src dst due, le-ltb (length arrivals) (length src) a, its-ending, its-start, its-arrivals, start-long)
+        rw (
+          its-last,
+          le-ltb (length plan) (n * last) p,
+          rows-long src dst due,
+          le-ltb (length arrivals) (length src) a,
+          its-ending,
+          its-start,
+          its-arrivals,
+          start-long,
+        )
 
-    planned : (left part stamps : List ℕ) (r : Answer) → left ≡ start → n * last ≤ length plan → length src ≤ length arrivals → RunPlanned (traffic n dst due) left (n * last) r part stamps
+    planned : (left part stamps : List ℕ) (r : Answer) → left ≡ start
+        → n * last ≤ length plan → length src ≤ length arrivals
+        → RunPlanned (traffic n dst due) left (n * last) r part stamps
         → GoodPlanned n rows plan arrivals r (part ++ drop (n * last) plan) (stamps ++ drop (length src) arrivals)
     unfolding answerToRun
     planned left part stamps r e p a run =
         let ran : RunPlanned (traffic n dst due) start (n * last) r part stamps = rw e at run in
         let stop = stopOf (traffic n dst due) start last in
-        let carried : part ≡ cond (eqb (stop .row) 0) (thePlan n rows) (replicate (n * last) 0) = ran .carries ∙ rw its-plan in
-        let arrived : stamps ≡ cond (eqb (stop .row) 0) (theArrivals n rows) (replicate (length src) 0) = ran .arrives ∙ rw (its-arrivals, start-long) in
-        let long : length (theArrivals n rows) ≡ length src = ap length its-arrivals ∙ arrivals-long (traffic n dst due) start last ∙ start-long in
+        let on-time = eqb (stop .row) 0 in
+        let carried : part ≡ cond on-time (thePlan n rows) (replicate (n * last) 0) = ran .carries ∙ rw its-plan in
+        let arrived : stamps ≡ cond on-time (theArrivals n rows) (replicate (length src) 0) =
+        ran .arrives ∙ rw (its-arrivals, start-long) in
+        let long : length (theArrivals n rows) ≡ length src =
+        ap length its-arrivals ∙ arrivals-long (traffic n dst due) start last ∙ start-long in
         record {
           answers = ran .answers ∙ sym (its-answer p a);
-          fills-plan = filled (eqb (stop .row) 0) _ (stop .row) (stop .slot .0) (n * last) (thePlan n rows) part plan plan-room carried ∙ ap (λ x. areaAfter x (thePlan n rows) plan) (sym (ran .answers));
-          fills-arrivals = filled (eqb (stop .row) 0) _ (stop .row) (stop .slot .0) (length src) (theArrivals n rows) stamps arrivals long arrived ∙ ap (λ x. areaAfter x (theArrivals n rows) arrivals) (sym (ran .answers));
+          fills-plan =
+              filled on-time _ (stop .row) (stop .slot .0) (n * last) (thePlan n rows) part plan plan-room carried
+              ∙ ap (λ x. areaAfter x (thePlan n rows) plan) (sym (ran .answers));
+          fills-arrivals =
+              filled on-time _ (stop .row) (stop .slot .0) (length src)
+              (theArrivals n rows) stamps arrivals long arrived
+              ∙ ap (λ x. areaAfter x (theArrivals n rows) arrivals) (sym (ran .answers));
         }
 
     -- the same, where the largest due slot is what was found
-    pub planned-with : {g : ℕ} → g ≡ last → {left part stamps : List ℕ} {r : Answer} → n * g ≤ length plan → length src ≤ length arrivals
+    pub planned-with : {g : ℕ} → g ≡ last → {left part stamps : List ℕ} {r : Answer}
+        → n * g ≤ length plan → length src ≤ length arrivals
         → RunPlanned (traffic n dst due) left (length (take (n * g) plan)) r part stamps → left ≡ start
         → GoodPlanned n rows plan arrivals r (part ++ drop (n * g) plan) (stamps ++ drop (length src) arrivals)
     planned-with {g} e {left} {part} {stamps} {r} p a run l =

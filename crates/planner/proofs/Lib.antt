@@ -3,4 +3,9 @@ pub mod Answering
 pub mod Good
 pub mod Judged
 pub mod Promises
+pub mod WellFormed
+pub mod EmptyTable
+pub mod Starting
+pub mod Seen
+pub mod Divided
 mod Cases

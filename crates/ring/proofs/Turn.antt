@@ -1,11 +1,10 @@
--- The remainder (q + n - p) % n, of which distances and places are made, without the remainder: it is q - p short of node 0 and q + n - p past it.
+-- The remainder (q + n - p) % n, of which distances and places are made, without the remainder: it is q - p short of
+-- node 0 and q + n - p past it.
 -- Assumes nothing.
 use mathlib.Core.Path.{_≡_, _∙_, ap}
 use Prim.Native.Nat.{ℕ, _+_, _-_, _%_, _≤_, _<_}
 use native.Mathlib.Nat.{mod-eq-of-lt, add-mod-right, mod-lt}
-use native.Mathlib.Decide.{decLe}
 use native.Mathlib.Omega.{arith}
-use Rattle.ring.specs.Ring.{distance}
 
 pub short-of-zero : (n p q : ℕ) → p ≤ q → q < n → (q + n - p) % n ≡ q - p
 short-of-zero n p q before inside =
@@ -22,16 +21,3 @@ pub on-ring : (n p q : ℕ) → q < n → (q + n - p) % n < n
 on-ring n p q inside =
     let l : 0 < n = omega arith in
     mod-lt (q + n - p) l
-
--- Two nodes that differ are at least one link apart, and less than a whole turn.
-pub apart : (n p q : ℕ) → p < n → q < n → (p ≡ q → ⊥) → 0 < distance n p q
-unfolding distance
-apart n p q hp hq d = go (decLe p q)
-  where
-    go : Dec (p ≤ q) → 0 < (q + n - p) % n
-    go (yes l) = omega (arith, short-of-zero n p q l hq)
-    go (no l) = omega (arith, past-zero n p q (omega arith) (omega arith))
-
-pub within-turn : (n p q : ℕ) → q < n → distance n p q ≤ n
-unfolding distance
-within-turn n p q hq = omega (arith, on-ring n p q hq)

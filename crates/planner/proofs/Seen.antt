@@ -1,0 +1,160 @@
+-- From the definitions to what is seen: the entries of every accepted outcome.
+--     accepted-is-plannable       an accepted table is well-formed, with room for its plan and its arrivals
+--     entry-is-pick               entry t × N + p of the plan is the row that the rule picks at p at instant t
+--     arrivals-are-deliveries     the arrivals are the instants at which that very plan delivers
+--     arrives-in-time             none of them lies after its row's due slot
+-- Assumes nothing.
+use mathlib.Core.Path.{_≡_, refl, _∙_, ap, sym}
+use Prim.Native.Nat.{ℕ, suc, _+_, _*_, _≤_, _<_}
+use native.Mathlib.Nat.{mul-comm}
+use native.Mathlib.Omega.{arith, by-contra}
+use mathlib.Core.Bool.{Bool, true, false, cond, _||_}
+use mathlib.Core.List.{List, [], _∷_, _++_}
+use borrow.Author.Tests.{ltb-false, eqb-false}
+use lib.Dec.{eqb, ltb}
+use lib.ListN.{length, getD, take, drop, List·getD-append}
+use lib.Seq.{getD-take}
+use Rattle.lists.proofs.Build.{getD-build}
+use Rattle.table.specs.declared.Row.{Row}
+use Rattle.table.specs.declared.Refusal.{Refusal}
+use Rattle.table.specs.declared.Verdict.{Verdict}
+use Rattle.table.specs.declared.Verdict.the-variants as verdict
+use Rattle.table.specs.Table.{judge, judgeRows, rowRefusal, most-rows, refuse, dues, distances, lastDue}
+use Rattle.table.proofs.Judging.{never-good}
+use Rattle.slack.specs.Slack.{Traffic, pick, stateAt, deliveredFrom, arrivalsOf}
+use Rattle.optimal.specs.Schedule.{Meets}
+use Rattle.optimal.proofs.Plan.{entry-inside, plan-entry}
+use Rattle.optimal.proofs.Deliveries.{Delivered, plan-delivers}
+use Rattle.planner.specs.declared.Answer.{Answer}
+use Rattle.planner.specs.declared.Answer.the-variants.{Accepted, Refused}
+use Rattle.planner.specs.Planner.{
+  trafficOf,
+  planRoom,
+  ending,
+  theArrivals,
+  theSummary,
+  answerToRows,
+  afterVerdict,
+  theAnswer,
+  numberOf,
+  areaAfter,
+  Planned,
+  Plannable,
+}
+use Rattle.planner.proofs.Answering.{arrivals-long}
+use Rattle.planner.proofs.Promises.{
+  due-in-time,
+  accepted-then,
+  accepted-with,
+  the-plan-is,
+  accepted-plan-is-a-schedule,
+  distances-long,
+}
+
+-- A refusal of the table has a number other than 0.
+row-refused : (n : ℕ) (rows : List Row) (above : ℕ) (x : Refusal)
+    → judgeRows n rows above ≡ verdict.Refused x → x .number ≡ 0 → ⊥
+unfolding judgeRows
+row-refused n [] above x e z = never-good x (sym e)
+row-refused n (r ∷ rows) above x e z = go (eqb (rowRefusal n r) 0) refl e (row-refused n rows (suc above) x)
+  where
+    go : (b : Bool) → eqb (rowRefusal n r) 0 ≡ b
+        → cond b (judgeRows n rows (suc above)) (verdict.Refused (refuse (rowRefusal n r) (suc above) 0))
+        ≡ verdict.Refused x
+        → (judgeRows n rows (suc above) ≡ verdict.Refused x → x .number ≡ 0 → ⊥) → ⊥
+    go true f h rest = rest h z
+    go false f h rest =
+        let number : rowRefusal n r ≡ x .number = cc in
+        eqb-false (rowRefusal n r) 0 f (number ∙ z)
+
+table-refused : (n : ℕ) (rows : List Row) (x : Refusal) → judge n rows ≡ verdict.Refused x → x .number ≡ 0 → ⊥
+unfolding judge
+table-refused n rows x e z = go (ltb n 2 || ltb 32 n) (ltb most-rows (length rows)) e
+  where
+    go : (a b : Bool)
+        → cond a (verdict.Refused (refuse 1 0 0)) (cond b (verdict.Refused (refuse 2 0 0)) (judgeRows n rows 0))
+        ≡ verdict.Refused x → ⊥
+    go true b h = let number : _≡_ {A = ℕ} 1 (x .number) = cc in omega arith
+    go false true h = let number : _≡_ {A = ℕ} 2 (x .number) = cc in omega arith
+    go false false h = row-refused n rows 0 x h z
+
+module _ {n : ℕ} {rows : List Row} {plan arrivals plan′ arrivals′ : List ℕ} {r : Answer}
+    (out : Planned n rows plan arrivals r plan′ arrivals′) (accepted : numberOf r ≡ 0) where
+  -- Refusals 1 to 8 do not hold of an accepted table.
+  pub accepted-is-plannable : Plannable n rows plan arrivals
+  unfolding theAnswer afterVerdict answerToRows numberOf
+  accepted-is-plannable = by-verdict (judge n rows) refl (ap numberOf (sym (out .answers)) ∙ accepted)
+    where
+      rest : Answer
+      rest =
+          cond (eqb (ending n rows .row) 0) (Accepted (theSummary n rows))
+          (Refused (refuse 9 (ending n rows .row) (ending n rows .slot .0)))
+
+      room : (a : Bool) → ltb (length plan) (planRoom n rows) ≡ a → (b : Bool) → ltb (length arrivals) (length rows) ≡ b
+          → judge n rows ≡ verdict.Good
+          → numberOf (cond a (Refused (refuse 7 0 0)) (cond b (Refused (refuse 8 0 0)) rest)) ≡ 0
+          → Plannable n rows plan arrivals
+      room true f b g well z = absurd (omega arith)
+      room false f true g well z = absurd (omega arith)
+      room false f false g well z =
+          record {
+            well-formed = well;
+            room-for-plan = ltb-false (length plan) (planRoom n rows) f;
+            room-for-arrivals = ltb-false (length arrivals) (length rows) g;
+          }
+
+      by-verdict : (v : Verdict) → judge n rows ≡ v
+          → numberOf (afterVerdict v (answerToRows n rows (length plan) (length arrivals))) ≡ 0
+          → Plannable n rows plan arrivals
+      by-verdict verdict.Good e z =
+          room (ltb (length plan) (planRoom n rows)) refl (ltb (length arrivals) (length rows)) refl e z
+      by-verdict (verdict.Refused x) e z = absurd (table-refused n rows x e z)
+
+  abbrev T : Traffic
+  T = trafficOf n rows
+
+  abbrev start : List ℕ
+  start = distances n rows
+
+  -- Entry t × N + p of an accepted plan is the row that the rule picks at p at instant t.
+  pub entry-is-pick : (t p : ℕ) → t < lastDue rows → p < n
+      → getD plan′ (t * n + p) 0
+      ≡ pick (trafficOf n rows) t (stateAt (trafficOf n rows) (distances n rows) t) p (length rows)
+  entry-is-pick t p early inside =
+      let before-end = entry-inside n (lastDue rows) t p early inside in
+      let used : t * n + p < planRoom n rows = omega (arith, mul-comm (lastDue rows) n) in
+      sym (getD-take (planRoom n rows) plan′ (t * n + p) 0 used)
+      ∙ ap (λ front. getD front (t * n + p) 0) (the-plan-is accepted-is-plannable out accepted)
+      ∙ plan-entry T start (lastDue rows) t p early inside ∙ ap (pick T t (stateAt T start t) p) (distances-long n rows)
+
+  -- Row i's arrival is the instant that is found for it.
+  its-arrival : (i : ℕ) → i < length start → getD arrivals′ i 0 ≡ deliveredFrom T start i (lastDue rows) 0
+  unfolding areaAfter theArrivals arrivalsOf
+  its-arrival i known =
+      let given = theArrivals n rows in
+      let filled : arrivals′ ≡ given ++ drop (length given) arrivals =
+      out .fills-arrivals ∙ rw (accepted-with accepted-is-plannable out accepted) in
+      let inside : i < length given = omega (arith, arrivals-long T start (lastDue rows)) in
+      ap (λ area. getD area i 0) filled ∙ List·getD-append given (drop (length given) arrivals) 0 i inside
+      ∙ getD-build (length start) (λ j. deliveredFrom T start j (lastDue rows) 0) i 0 known
+
+  -- Each arrival is the instant at which the plan that is seen delivers its row: it has no link to go then, and some
+  -- before.
+  pub arrivals-are-deliveries : (i : ℕ) → i < length rows
+      → Delivered (trafficOf n rows) (distances n rows) (take (planRoom n rows) plan′) i (getD arrivals′ i 0)
+  arrivals-are-deliveries i known =
+      let inside : i < length start = omega (arith, distances-long n rows) in
+      let k = accepted-is-plannable in
+      let dues-in-time = due-in-time n rows (k .well-formed) in
+      rw (the-plan-is k out accepted, its-arrival i inside)
+      (plan-delivers T start (lastDue rows) dues-in-time (accepted-then k out accepted) i inside)
+
+  -- No arrival lies after its row's due slot.
+  pub arrives-in-time : (i : ℕ) → i < length rows → getD arrivals′ i 0 ≤ getD (dues rows) i 0
+  unfolding Meets
+  arrives-in-time i known =
+      let inside : i < length start = omega (arith, distances-long n rows) in
+      let met = accepted-plan-is-a-schedule accepted-is-plannable out accepted .meets i inside in
+      let first = arrivals-are-deliveries i known in
+      by-contra (getD arrivals′ i 0) (getD (dues rows) i 0)
+      (λ late. omega (arith, first .not-before (met .0) (omega arith)))
