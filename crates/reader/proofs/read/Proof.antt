@@ -46,10 +46,10 @@ use Rattle.table.proofs.Row as T
 use Rattle.table.proofs.Row.Laws as T′
 use Rattle.table.proofs.Columns as B
 use Rattle.table.proofs.Columns.Laws as B′
-use Rattle.table.proofs.store_rows as store
-use Rattle.table.proofs.store_rows.Symbol as store-def
-use Rattle.table.proofs.store_rows.Symbol.{name as #table·store-rows}
-use Rattle.table.proofs.store_rows.Met as store-thm
+use Rattle.lent.proofs.store_rows as store
+use Rattle.lent.proofs.store_rows.Symbol as store-def
+use Rattle.lent.proofs.store_rows.Symbol.{name as #lent·store-rows}
+use Rattle.lent.proofs.store_rows.Met as store-thm
 use Rattle.text.specs.declared.Parsed.{Parsed}
 use Rattle.text.proofs.Parsed as P
 use Rattle.text.proofs.Parsed.Laws as P′
@@ -84,7 +84,7 @@ body-is : code.function .body ≡
     (seq (call #reader·parse (copy (place 1 []) ∷ copy (place 3 []) ∷ []) (place 4 []))
     (seq (assign (place 6 []) (addrOf (place 2 (field 0 ∷ deref T′.mir ∷ []))))
     (seq (assign (place 7 []) (aggregate (copy (place 6 []) ∷ copy (place 2 (field 1 ∷ [])) ∷ [])))
-    (seq (call #table·store-rows (copy (place 7 []) ∷ copy (place 4 (field 2 ∷ [])) ∷ copy (place 4 (field 1 ∷ [])) ∷ []) (place 5 []))
+    (seq (call #lent·store-rows (copy (place 7 []) ∷ copy (place 4 (field 2 ∷ [])) ∷ copy (place 4 (field 1 ∷ [])) ∷ []) (place 5 []))
     (seq (assign (place 0 []) (rvOpd (copy (place 4 (field 0 ∷ []))))) return)))))
 body-is = refl
 
@@ -202,7 +202,7 @@ module _ {M : Type 1} (𝓤 : URA M) (H : Heap 𝓤) (A : Atoms 𝓤) (W : Given
   abbrev Lasts : Type 0
   Lasts = List Row × (Unit {0} × (Unit {0} × Unit {0}))
 
-  module _ (C : Calls 𝓤 H) (Λ : Loops 𝓤 H) (fm : FmC 𝓤 H (W .laws) C) (known-parse : Triple 𝓤 (C #reader·parse) (Parse 𝓤 H A mem run)) (known-store : Triple 𝓤 (C #table·store-rows) (Store 𝓤 H A mem run)) where
+  module _ (C : Calls 𝓤 H) (Λ : Loops 𝓤 H) (fm : FmC 𝓤 H (W .laws) C) (known-parse : Triple 𝓤 (C #reader·parse) (Parse 𝓤 H A mem run)) (known-store : Triple 𝓤 (C #lent·store-rows) (Store 𝓤 H A mem run)) where
     walk : Room u8 (length xs) → Room R n → ent 𝓤 (onEntry 𝓤 H A read.signature (κ, (κ₁, tt)) (q, (q₁, tt)) args at) (WpFn 𝓤 H C Λ code.function (tv ∷ sv ∷ []) Post)
     walk g g₁ =
         qed W ((‵ (flft κ q) ⊛ token) ∷ ‵ (owns (ShrSlice (named 0) κ u8 ∷ MutSlice (named 1) κ₁ R ∷ []) args at) ∷ []) ∵ enter ! C Λ code.function (tv ∷ sv ∷ []) _ $
@@ -239,7 +239,7 @@ module _ {M : Type 1} (𝓤 : URA M) (H : Heap 𝓤) (A : Atoms 𝓤) (W : Given
         free0 ! $ keep ! (4 ∷ 1 ∷ 5 ∷ 2 ∷ []) $ by ! (exits p (zs .0) (apart p v is .reading) e d h)))))))))))))))))))
 
 module _ {M : Type 1} (𝓤 : URA M) (H : Heap 𝓤) (A : Atoms 𝓤) (W : Given 𝓤 H A) (mem : Memory → SProp 𝓤) (run : Routine → Fun 𝓤) (𝓣 : Tables 𝓤 H)
-    (known-parse : Triple 𝓤 (𝓣 .C #reader·parse) (Parse 𝓤 H A mem run)) (known-store : Triple 𝓤 (𝓣 .C #table·store-rows) (Store 𝓤 H A mem run)) where
+    (known-parse : Triple 𝓤 (𝓣 .C #reader·parse) (Parse 𝓤 H A mem run)) (known-store : Triple 𝓤 (𝓣 .C #lent·store-rows) (Store 𝓤 H A mem run)) where
   read-walks : Walks 𝓤 H A read.ended stayed (WpFn 𝓤 H (𝓣 .C) (𝓣 .Λ) code.function) (read.clauses 𝓤 H A mem run)
   read-walks = walked 𝓤 H A read.ended stayed (read.clauses 𝓤 H A mem run) (WpFn 𝓤 H (𝓣 .C) (𝓣 .Λ) code.function) (λ κs. (slice-vals, (slice-vals, tt)))
       (λ κs. (shr-slice-tells (named 0) (κs .0) u8, (mut-slice-tells (named 1) (κs .1 .0) R, tt)))
@@ -259,4 +259,4 @@ read-spec 𝓤 H 𝓜 𝓖 𝓡 =
     (tables 𝓤 H 𝓜 𝓡 code.env .C) (tables 𝓤 H 𝓜 𝓡 code.env .Λ) #reader·read code.function (code.unfolded 𝓤 H 𝓜 𝓡)
     (read-meets 𝓤 H (𝓖 .A) (givenOf 𝓤 H 𝓜 𝓖) (𝓜 .mem) (𝓡 .run) (tablesOf 𝓤 H 𝓜 (tables 𝓤 H 𝓜 𝓡 code.env))
     (cited 𝓤 H (Parse 𝓤 H (𝓖 .A) (𝓜 .mem) (𝓡 .run)) 𝓜 𝓡 code.env #reader·parse parse-def.routine code.calls-reader·parse (parse-thm.met 𝓤 H 𝓜 𝓖 𝓡))
-    (cited 𝓤 H (Store 𝓤 H (𝓖 .A) (𝓜 .mem) (𝓡 .run)) 𝓜 𝓡 code.env #table·store-rows store-def.routine code.calls-table·store-rows (store-thm.met 𝓤 H 𝓜 𝓖 𝓡)))
+    (cited 𝓤 H (Store 𝓤 H (𝓖 .A) (𝓜 .mem) (𝓡 .run)) 𝓜 𝓡 code.env #lent·store-rows store-def.routine code.calls-lent·store-rows (store-thm.met 𝓤 H 𝓜 𝓖 𝓡)))

@@ -1,0 +1,6 @@
+pub mod Element
+pub mod Held
+pub mod Loading
+pub mod Locals
+pub mod Lending
+pub mod Law
