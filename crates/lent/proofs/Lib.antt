@@ -4,3 +4,4 @@ pub mod Loading
 pub mod Locals
 pub mod Lending
 pub mod Law
+pub mod Storing
