@@ -1,10 +1,12 @@
 // The panel's way in: each function is thin over a proved entry point, and is called from C or Rust by its plain name.
 ghost use mathlib.Core.Path.{_≡_};
 ghost use lib.ListN.{getD};
+ghost use Rattle.table.specs.Steps.{listed};
 ghost use Rattle.area.specs.Area.{countIn, nodesIn, rowsIn, loadsIn, busiestIn};
 ghost use Rattle.edit.specs.Edit.{Add, Change, Remove, entryOf};
 ghost use Rattle.flat.specs.Flat.{flatVerdict, flatEntry, flatLink};
 ghost use Rattle.panel.specs.Panel.{PanelPlanned, PanelRead, PanelWritten, PanelOpened, PanelEdited, PanelSentence, PanelLabel};
+ghost use Rattle.panel.specs.Steps.{FlatRead};
 ghost use Rattle.catalogue.specs.Catalogue.{verdictOn};
 use flat::EditAnswer;
 use flat::LinkAnswer;
@@ -20,8 +22,56 @@ use flat::flat_reading;
 use flat::flat_sentence;
 use flat::flat_verdict;
 use flat::flat_writing;
+use lent::load;
+use lent::store_rows;
 use ring::Node;
+use table::Columns;
 use table::Row;
+
+// What reading a text comes to in plain numbers, and the rows that it fills by columns.
+struct FlatParsed {
+    reading: ReadAnswer,
+    rows: usize,
+    columns: Columns,
+}
+
+// Reads a text, where so many records are lent, and answers in plain numbers.
+fn parse_flat(text: &[u8], lent: usize) -> FlatParsed
+    ensures { λ r. ⌜ FlatRead (now (text .entry)) lent r ⌝ }
+{
+    let parsed = reader::parse(text, lent);
+    let answer = parsed.reading;
+    let rows = parsed.rows;
+    let columns = parsed.columns;
+    let reading = flat_reading(answer);
+    FlatParsed {
+        reading,
+        rows,
+        columns,
+    }
+}
+
+// Plans the first `rows` rows of the columns, and answers in plain numbers.
+fn plan_flat(
+    nodes: u16,
+    rows: usize,
+    columns: Columns,
+    plan: &mut [u16],
+    arrivals: &mut [u16],
+) -> PlanAnswer
+    ensures { λ r. ⌜ PanelPlanned nodes (listed rows columns) (now (plan .entry)) (now (arrivals .entry)) r (now (plan .exit)) (now (arrivals .exit)) ⌝ }
+{
+    let answer = planner::plan_columns(nodes, rows, columns, plan, arrivals);
+    flat_answer(answer)
+}
+
+// Writes the text of a table, its rows given by columns, and answers in plain numbers.
+fn write_flat(nodes: u16, rows: usize, columns: Columns, area: &mut [u8]) -> WriteAnswer
+    ensures { λ r. ⌜ PanelWritten nodes (listed rows columns) (now (area .entry)) r (now (area .exit)) ⌝ }
+{
+    let writing = writer::write_columns(nodes, rows, columns, area);
+    flat_writing(writing)
+}
 
 // Plans a table in the lent areas, and answers in plain numbers.
 #[no_mangle]
@@ -33,8 +83,9 @@ pub extern "C" fn garboardle_plan(
 ) -> PlanAnswer
     ensures { λ r. ⌜ PanelPlanned nodes (now (rows .entry)) (now (plan .entry)) (now (arrivals .entry)) r (now (plan .exit)) (now (arrivals .exit)) ⌝ }
 {
-    let answer = planner::plan(nodes, rows, plan, arrivals);
-    flat_answer(answer)
+    let count = rows.len();
+    let columns = load(rows);
+    plan_flat(nodes, count, columns, plan, arrivals)
 }
 
 // Reads a table's text into the lent rows, and answers in plain numbers.
@@ -42,8 +93,10 @@ pub extern "C" fn garboardle_plan(
 pub extern "C" fn garboardle_read(text: &[u8], rows: &mut [Row]) -> ReadAnswer
     ensures { λ r. ⌜ PanelRead (now (text .entry)) (now (rows .entry)) r (now (rows .exit)) ⌝ }
 {
-    let reading = reader::read(text, rows);
-    flat_reading(reading)
+    let lent = rows.len();
+    let parsed = parse_flat(text, lent);
+    store_rows(rows, parsed.columns, parsed.rows);
+    parsed.reading
 }
 
 // Writes a table's text into the lent area, and answers in plain numbers.
@@ -51,8 +104,9 @@ pub extern "C" fn garboardle_read(text: &[u8], rows: &mut [Row]) -> ReadAnswer
 pub extern "C" fn garboardle_write(nodes: u16, rows: &[Row], area: &mut [u8]) -> WriteAnswer
     ensures { λ r. ⌜ PanelWritten nodes (now (rows .entry)) (now (area .entry)) r (now (area .exit)) ⌝ }
 {
-    let writing = writer::write(nodes, rows, area);
-    flat_writing(writing)
+    let count = rows.len();
+    let columns = load(rows);
+    write_flat(nodes, count, columns, area)
 }
 
 // Opens an empty table for so many nodes in the lent area.
@@ -130,8 +184,7 @@ pub extern "C" fn garboardle_plan_table(
 {
     let rows = area::row_count(table) as usize;
     let columns = area::columns_of(table);
-    let answer = planner::plan_columns(table[0], rows, columns, plan, arrivals);
-    flat_answer(answer)
+    plan_flat(table[0], rows, columns, plan, arrivals)
 }
 
 // Judges a catalogue.

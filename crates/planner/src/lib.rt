@@ -6,6 +6,7 @@ ghost use Prim.Native.Nat.{_≤_};
 ghost use Rattle.slack.specs.Slack.{traffic};
 ghost use Rattle.planner.specs.Planner.{Planned, quotient, summaryOf};
 ghost use Rattle.planner.specs.Steps.{Runnable, RunPlanned, Tabled, GoodPlanned};
+use lent::load;
 use lists::greatest;
 use lists::sum;
 use lists::zeros;
@@ -16,7 +17,6 @@ use table::Refusal;
 use table::Row;
 use table::Verdict;
 use table::judge_rows;
-use table::load;
 use table::measure;
 
 // What an accepted table comes to.

@@ -5,4 +5,4 @@ mod ColumnLaws
 mod Loading
 mod Heading
 mod Parsing
-mod Lent
+pub mod Lent

@@ -1,4 +1,2 @@
-pub mod Element
-pub mod Held
 pub mod Judging
 pub mod Rows

@@ -1,4 +1,4 @@
 mod Listed
 mod Placing
 mod Outcomes
-mod Lent
+pub mod Lent

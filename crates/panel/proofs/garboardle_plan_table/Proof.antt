@@ -15,14 +15,11 @@ cast-rows c = search needs
 columns-of-requires : tie.Need-columns-of-requires
 columns-of-requires c κs = search needs
 
-element-copy-out-plan-columns : tie.Need-element-copy-out-plan-columns
-element-copy-out-plan-columns c = search needs
+element-copy-out-plan-flat : tie.Need-element-copy-out-plan-flat
+element-copy-out-plan-flat c = search needs
 
-plan-columns-requires : tie.Need-plan-columns-requires
-plan-columns-requires c κs = search needs
-
-flat-answer-requires : tie.Need-flat-answer-requires
-flat-answer-requires c κs = search needs
+plan-flat-requires : tie.Need-plan-flat-requires
+plan-flat-requires c κs = search needs
 
 same-length : tie.Need-same-length
 same-length c = search needs
@@ -32,7 +29,9 @@ same-length-2 c = search needs
 
 returns : tie.Need-returns
 returns c =
-    held-planned (nodesIn (c .before .before .before .before .before .before .before .before .before .before .before .before .before .args .table .now)) _ (c .before .before .before .before .before .before .before .before .before .before .row-count .ensures) (c .before .before .before .before .before .before .before .before .before .columns-of .ensures) (c .before .before .before .before .before .plan-columns .ensures) (c .flat-answer .ensures)
+    let planned = c .before .before .before .before in
+    let loaded = planned .before .before .before .before in
+    held-planned (nodesIn (loaded .before .before .before .before .args .table .now)) _ (loaded .before .row-count .ensures) (loaded .columns-of .ensures) (planned .plan-flat .ensures)
 
 pub garboardle-plan-table-spec : {M : Type 1} → statement M
 garboardle-plan-table-spec =
@@ -41,9 +40,8 @@ garboardle-plan-table-spec =
     row-count-requires
     cast-rows
     columns-of-requires
-    element-copy-out-plan-columns
-    plan-columns-requires
-    flat-answer-requires
+    element-copy-out-plan-flat
+    plan-flat-requires
     same-length
     same-length-2
     returns)

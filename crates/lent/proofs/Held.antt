@@ -4,10 +4,11 @@
 --     Holds             the machine's values are those of an array of n numbers of 16 bits
 --     holds-set         they are still, with another such number set
 --     columns-stored    so it is of columns with one row stored
+--     columns-are, row-is      columns and a row that are known by an equation are at their machine value
 --     values-at         one value is read
 --     row-stored        a row that is read out of columns is a row of such numbers
 -- Assumes nothing.
-use mathlib.Core.Path.{_≡_, refl, _∙_, ap, sym}
+use mathlib.Core.Path.{_≡_, refl, _∙_, ap, sym, subst}
 use Prim.Native.Nat.{ℕ, zero, suc, _<_, _^_}
 use mathlib.Core.List.{List, [], _∷_, map}
 use lib.Dec.{lit<}
@@ -20,13 +21,14 @@ use denote.Plain.{UInt}
 use denote.Array.{Array, arrayVal, each}
 use denote.Steps.{only}
 use denote.Struct.Laws as LL
 use Rattle.table.specs.declared.Row.{Row}
 use Rattle.table.specs.declared.Columns.{Columns}
 use Rattle.table.proofs.Row as T
 use Rattle.table.proofs.Row.Laws as T′
 use Rattle.table.proofs.Columns as B
 use Rattle.table.proofs.Columns.Laws as B′
-use Rattle.table.proofs.Rows.{stored, rowOf}
+use Rattle.table.proofs.Rows.{rowOf}
+use Rattle.lent.proofs.Loading.{stored}
 
 -- a column as the declared type has it, and its machine values
 abbrev numbers : List ℕ → List ℕ
@@ -84,6 +86,17 @@ IsColumns c = Is B.the-row c (machine c ∷ [])
 
 abbrev pub IsRow : Row → Type 0
 IsRow r = Is T.the-row r (T′.lowered r ∷ [])
+
+-- columns that are known by an equation are at their machine value, and so is a row
+pub columns-are : (t s : Columns) (v : Val) → Is B.the-row t (v ∷ []) → t ≡ s → (v ≡ machine s) × IsColumns s
+columns-are t s v p e =
+    let u = LL.tells B.the-type B′.the-laws t (v ∷ []) p in
+    subst (λ (x : Columns). (v ≡ machine x) × IsColumns x) e (ap only u, subst (Is B.the-row t) u p)
+
+pub row-is : (r s : Row) (v : Val) → Is T.the-row r (v ∷ []) → r ≡ s → (v ≡ T′.lowered s) × IsRow s
+row-is r s v p e =
+    let t = LL.tells T.the-type T′.the-laws r (v ∷ []) p in
+    subst (λ (x : Row). (v ≡ T′.lowered x) × IsRow x) e (ap only t, subst (Is T.the-row r) t p)
 
 pub columns-stored : (c : Columns) (i : ℕ) (r : Row) → IsColumns c → IsRow r → IsColumns (stored c i r)
 columns-stored c i r p f =

@@ -1,4 +1,4 @@
--- `table::load` meets its contract: a walk of its MIR, by hand, with a loop. Each turn calls `row_at` on the lent rows, which is passed a copy of the slice reference and the lifetime's token, and stores the row in place, one entry in each column of the local.
+-- `lent::load` meets its contract: a walk of its MIR, by hand, with a loop. Each turn calls `row_at` on the lent rows, which is passed a copy of the slice reference and the lifetime's token, and stores the row in place, one entry in each column of the local.
 -- The invariant, where t rows are left: the local holds the columns of the first i rows, and t + i is the number of rows that are read, at most 512.
 -- Assumes nothing.
 use mathlib.Core.Path.{_≡_, refl, sym, _∙_, ap, subst}
@@ -48,32 +48,32 @@ use denote.Triple.Spec.{Meets, tripleOf}
 use denote.Triple.Table.{entered, cited}
 use denote.Triple.Walked.{says, Stays, stay-none-slice, walkOf, goes-none-slice, Walks, ends-at, walked, walk-meets}
 use denote.Exit.{yes}
 use Rattle.table.specs.declared.Row.{Row}
 use Rattle.table.specs.declared.Columns.{Columns}
 use Rattle.table.specs.Steps.{none, columns}
-use Rattle.table.proofs.Element.{elem}
-use Rattle.table.proofs.Held.{values, values-set, values-long, machine, IsColumns, IsRow, columns-stored}
-use Rattle.table.proofs.Rows.{columns-more, columns-all}
+use Rattle.lent.proofs.Element.{elem}
+use Rattle.lent.proofs.Held.{values, values-set, values-long, machine, IsColumns, IsRow, columns-stored}
+use Rattle.lent.proofs.Loading.{columns-more, columns-all}
 use Rattle.table.proofs.Row as T
 use Rattle.table.proofs.Row.Laws as T′
 use Rattle.table.proofs.Columns as B
 use Rattle.table.proofs.Columns.Laws as B′
-use Rattle.table.proofs.at_most_512 as at-most
-use Rattle.table.proofs.at_most_512.Symbol as at-most-def
-use Rattle.table.proofs.at_most_512.Symbol.{name as #table·at-most-512}
-use Rattle.table.proofs.at_most_512.Met as at-most-thm
-use Rattle.table.proofs.blank as blank
-use Rattle.table.proofs.blank.Symbol as blank-def
-use Rattle.table.proofs.blank.Symbol.{name as #table·blank}
-use Rattle.table.proofs.blank.Met as blank-thm
-use Rattle.table.proofs.row_at as row-at
-use Rattle.table.proofs.row_at.Symbol as row-at-def
-use Rattle.table.proofs.row_at.Symbol.{name as #table·row-at}
-use Rattle.table.proofs.row_at.Met as row-at-thm
-use Rattle.table.proofs.load.Key.{name as #table·load}
-use Rattle.table.proofs.load as load
-use Rattle.table.proofs.load.Statement as stated
-use Rattle.table.proofs.load.Code as code
+use Rattle.lent.proofs.at_most_512 as at-most
+use Rattle.lent.proofs.at_most_512.Symbol as at-most-def
+use Rattle.lent.proofs.at_most_512.Symbol.{name as #lent·at-most-512}
+use Rattle.lent.proofs.at_most_512.Met as at-most-thm
+use Rattle.lent.proofs.blank as blank
+use Rattle.lent.proofs.blank.Symbol as blank-def
+use Rattle.lent.proofs.blank.Symbol.{name as #lent·blank}
+use Rattle.lent.proofs.blank.Met as blank-thm
+use Rattle.lent.proofs.row_at as row-at
+use Rattle.lent.proofs.row_at.Symbol as row-at-def
+use Rattle.lent.proofs.row_at.Symbol.{name as #lent·row-at}
+use Rattle.lent.proofs.row_at.Met as row-at-thm
+use Rattle.lent.proofs.load.Key.{name as #lent·load}
+use Rattle.lent.proofs.load as load
+use Rattle.lent.proofs.load.Statement as stated
+use Rattle.lent.proofs.load.Code as code
 
 abbrev R : RattleType
 R = T.the-row
@@ -92,7 +92,7 @@ abbrev turn : Code
 turn =
     seq (assign (place 8 []) (op2 (lt unsigned) (copy (place 4 [])) (copy (place 2 []))))
     (seq (cond (copy (place 8 [])) skipᴹ (exit 1))
-    (seq (call #table·row-at (copy (place 1 []) ∷ copy (place 4 []) ∷ []) (place 5 []))
+    (seq (call #lent·row-at (copy (place 1 []) ∷ copy (place 4 []) ∷ []) (place 5 []))
     (seq (assign (place 9 []) (op2 (mul unsigned) (copy (place 4 [])) (int w64 2)))
     (seq (assign (place 10 []) (addrOf (place 3 (field 0 ∷ []))))
     (seq (assign (place 11 []) (op2 offset (copy (place 10 [])) (copy (place 9 []))))
@@ -112,8 +112,8 @@ rest = seq (assign (place 0 []) (rvOpd (copy (place 3 [])))) return
 
 body-is : code.function .body ≡
     seq (assign (place 6 []) (rvOpd (copy (place 1 (field 1 ∷ [])))))
-    (seq (call #table·at-most-512 (copy (place 6 []) ∷ []) (place 2 []))
-    (seq (call #table·blank [] (place 7 []))
+    (seq (call #lent·at-most-512 (copy (place 6 []) ∷ []) (place 2 []))
+    (seq (call #lent·blank [] (place 7 []))
     (seq (assign (place 3 []) (rvOpd (copy (place 7 []))))
     (seq (assign (place 4 []) (rvOpd (int w64 0)))
     (seq (block (loop turn)) rest)))))
@@ -254,7 +254,7 @@ module _ {M : Type 1} (𝓤 : URA M) (H : Heap 𝓤) (A : Atoms 𝓤) (W : Given
           → vstruct (vcons (vstruct (ofList a)) (vcons (vstruct (ofList d)) (vcons (vstruct (ofList e)) vnil))) ≡ vstruct (vcons (vstruct (ofList a′)) (vcons (vstruct (ofList d′)) (vcons (vstruct (ofList e′)) vnil)))
       three h₁ h₂ h₃ = cc (h₁, h₂, h₃)
 
-  module _ (𝓣 : Tables 𝓤 H) (g : Room R n) (known-row : Triple 𝓤 (𝓣 .C #table·row-at) (RowAt 𝓤 H A mem run)) where
+  module _ (𝓣 : Tables 𝓤 H) (g : Room R n) (known-row : Triple 𝓤 (𝓣 .C #lent·row-at) (RowAt 𝓤 H A mem run)) where
     abbrev C : Calls 𝓤 H
     C = 𝓣 .C
 
@@ -382,7 +382,7 @@ module _ {M : Type 1} (𝓤 : URA M) (H : Heap 𝓤) (A : Atoms 𝓤) (W : Given
       start : IsColumns (tab 0) → Seq (Go {0}) W (At 0) (runs C Λ En (seq (block (loop turn)) rest) (atRet En Post))
       start p = by ! (loops p)
 
-    walk : Triple 𝓤 (C #table·at-most-512) (AtMost 𝓤 H A mem run) → Triple 𝓤 (C #table·blank) (Blank 𝓤 H A mem run) → ent 𝓤 (onEntry 𝓤 H A load.signature (κ, tt) (q, tt) (rows, tt) at) (WpFn 𝓤 H C Λ code.function (sv ∷ []) Post)
+    walk : Triple 𝓤 (C #lent·at-most-512) (AtMost 𝓤 H A mem run) → Triple 𝓤 (C #lent·blank) (Blank 𝓤 H A mem run) → ent 𝓤 (onEntry 𝓤 H A load.signature (κ, tt) (q, tt) (rows, tt) at) (WpFn 𝓤 H C Λ code.function (sv ∷ []) Post)
     walk known-count known-blank =
         qed W ((‵ (flft κ q) ⊛ ‵ ftrue) ∷ ‵ (owns (ShrSlice (named 0) κ R ∷ []) (rows, tt) at) ∷ []) ∵ enter ! C Λ code.function (sv ∷ []) _ $
         alloc1 ! (λ l₀. alloc1 ! (λ l₁. alloc1 ! (λ l₂. alloc1 ! (λ l₃. alloc1 ! (λ l₄. alloc1 ! (λ l₅. alloc1 ! (λ l₆. alloc1 ! (λ l₇. alloc1 ! (λ l₈. alloc1 ! (λ l₉. alloc1 ! (λ l₁₀. alloc1 ! (λ l₁₁. alloc1 ! (λ l₁₂. alloc1 ! (λ l₁₃. alloc1 ! (λ l₁₄. alloc1 ! (λ l₁₅. alloc0 ! $ params1 ! $
@@ -411,7 +411,7 @@ module _ {M : Type 1} (𝓤 : URA M) (H : Heap 𝓤) (A : Atoms 𝓤) (W : Given
         start l₀ l₁ l₂ l₃ l₄ l₅ l₆ l₇ l₈ l₉ l₁₀ l₁₁ l₁₂ l₁₃ l₁₄ l₁₅ (columns-are r (tab 0) w is₂ e₂ .1)))))))))))))))))))))))))
 
 module _ {M : Type 1} (𝓤 : URA M) (H : Heap 𝓤) (A : Atoms 𝓤) (W : Given 𝓤 H A) (mem : Memory → SProp 𝓤) (run : Routine → Fun 𝓤) (𝓣 : Tables 𝓤 H)
-    (known-count : Triple 𝓤 (𝓣 .C #table·at-most-512) (AtMost 𝓤 H A mem run)) (known-blank : Triple 𝓤 (𝓣 .C #table·blank) (Blank 𝓤 H A mem run)) (known-row : Triple 𝓤 (𝓣 .C #table·row-at) (RowAt 𝓤 H A mem run)) where
+    (known-count : Triple 𝓤 (𝓣 .C #lent·at-most-512) (AtMost 𝓤 H A mem run)) (known-blank : Triple 𝓤 (𝓣 .C #lent·blank) (Blank 𝓤 H A mem run)) (known-row : Triple 𝓤 (𝓣 .C #lent·row-at) (RowAt 𝓤 H A mem run)) where
   load-walks : Walks 𝓤 H A load.ended stayed (WpFn 𝓤 H (𝓣 .C) (𝓣 .Λ) code.function) (load.clauses 𝓤 H A mem run)
   load-walks = walked 𝓤 H A load.ended stayed (load.clauses 𝓤 H A mem run) (WpFn 𝓤 H (𝓣 .C) (𝓣 .Λ) code.function) (λ κs. (slice-vals, tt)) (λ κs. (shr-slice-tells (named 0) (κs .0) R, tt))
       (λ κs qs bounds a g are. via 𝓤 _ (fst∗ 𝓤 _ (emp 𝓤))
@@ -424,8 +424,8 @@ pub load-spec : {M : Type 1} → stated.statement M
 unfolding code.routine tablesOf
 load-spec 𝓤 H 𝓜 𝓖 𝓡 =
     entered 𝓤 H (tripleOf 𝓤 H (𝓖 .A) load.signature (load.spec 𝓤 H (𝓖 .A) (𝓜 .mem) (𝓡 .run)))
-    (tables 𝓤 H 𝓜 𝓡 code.env .C) (tables 𝓤 H 𝓜 𝓡 code.env .Λ) #table·load code.function (code.unfolded 𝓤 H 𝓜 𝓡)
+    (tables 𝓤 H 𝓜 𝓡 code.env .C) (tables 𝓤 H 𝓜 𝓡 code.env .Λ) #lent·load code.function (code.unfolded 𝓤 H 𝓜 𝓡)
     (load-meets 𝓤 H (𝓖 .A) (givenOf 𝓤 H 𝓜 𝓖) (𝓜 .mem) (𝓡 .run) (tablesOf 𝓤 H 𝓜 (tables 𝓤 H 𝓜 𝓡 code.env))
-    (cited 𝓤 H (AtMost 𝓤 H (𝓖 .A) (𝓜 .mem) (𝓡 .run)) 𝓜 𝓡 code.env #table·at-most-512 at-most-def.routine code.calls-table·at-most-512 (at-most-thm.met 𝓤 H 𝓜 𝓖 𝓡))
-    (cited 𝓤 H (Blank 𝓤 H (𝓖 .A) (𝓜 .mem) (𝓡 .run)) 𝓜 𝓡 code.env #table·blank blank-def.routine code.calls-table·blank (blank-thm.met 𝓤 H 𝓜 𝓖 𝓡))
-    (cited 𝓤 H (RowAt 𝓤 H (𝓖 .A) (𝓜 .mem) (𝓡 .run)) 𝓜 𝓡 code.env #table·row-at row-at-def.routine code.calls-table·row-at (row-at-thm.met 𝓤 H 𝓜 𝓖 𝓡)))
+    (cited 𝓤 H (AtMost 𝓤 H (𝓖 .A) (𝓜 .mem) (𝓡 .run)) 𝓜 𝓡 code.env #lent·at-most-512 at-most-def.routine code.calls-lent·at-most-512 (at-most-thm.met 𝓤 H 𝓜 𝓖 𝓡))
+    (cited 𝓤 H (Blank 𝓤 H (𝓖 .A) (𝓜 .mem) (𝓡 .run)) 𝓜 𝓡 code.env #lent·blank blank-def.routine code.calls-lent·blank (blank-thm.met 𝓤 H 𝓜 𝓖 𝓡))
+    (cited 𝓤 H (RowAt 𝓤 H (𝓖 .A) (𝓜 .mem) (𝓡 .run)) 𝓜 𝓡 code.env #lent·row-at row-at-def.routine code.calls-lent·row-at (row-at-thm.met 𝓤 H 𝓜 𝓖 𝓡)))

@@ -1,4 +1,4 @@
--- `table::row_at` meets its contract: a walk of its MIR, by hand. The place of `rows[i]` is i * 6 past the slice's pointer, and the row is copied out of there.
+-- `lent::row_at` meets its contract: a walk of its MIR, by hand. The place of `rows[i]` is i * 6 past the slice's pointer, and the row is copied out of there.
 -- The code does not test the bound: that i is below the length is what the contract asks.
 -- Assumes nothing.
 use mathlib.Core.Path.{refl, sym}
@@ -37,14 +37,14 @@ use denote.Triple.Spec.{Meets, tripleOf}
 use denote.Triple.Table.{entered}
 use denote.Triple.Walked.{says, needs, Stays, stay-none-slice, stay-none, walkOf, goes-none-slice, goes-none, Walks, ends-at, walked, walk-meets}
 use denote.Exit.{yes}
 use Rattle.table.specs.declared.Row.{Row}
 use Rattle.table.specs.Steps.{none}
 use Rattle.table.proofs.Row as T
 use Rattle.table.proofs.Row.Laws as T′
-use Rattle.table.proofs.row_at.Key.{name as #table·row-at}
-use Rattle.table.proofs.row_at as row-at
-use Rattle.table.proofs.row_at.Statement as stated
-use Rattle.table.proofs.row_at.Code as code
+use Rattle.lent.proofs.row_at.Key.{name as #lent·row-at}
+use Rattle.lent.proofs.row_at as row-at
+use Rattle.lent.proofs.row_at.Statement as stated
+use Rattle.lent.proofs.row_at.Code as code
 
 abbrev R : RattleType
 R = T.the-row
@@ -113,5 +113,5 @@ pub row-at-spec : {M : Type 1} → stated.statement M
 unfolding code.routine tablesOf
 row-at-spec 𝓤 H 𝓜 𝓖 𝓡 =
     entered 𝓤 H (tripleOf 𝓤 H (𝓖 .A) row-at.signature (row-at.spec 𝓤 H (𝓖 .A) (𝓜 .mem) (𝓡 .run)))
-    (tables 𝓤 H 𝓜 𝓡 code.env .C) (tables 𝓤 H 𝓜 𝓡 code.env .Λ) #table·row-at code.function (code.unfolded 𝓤 H 𝓜 𝓡)
+    (tables 𝓤 H 𝓜 𝓡 code.env .C) (tables 𝓤 H 𝓜 𝓡 code.env .Λ) #lent·row-at code.function (code.unfolded 𝓤 H 𝓜 𝓡)
     (row-at-meets 𝓤 H (𝓖 .A) (givenOf 𝓤 H 𝓜 𝓖) (𝓜 .mem) (𝓡 .run) (tablesOf 𝓤 H 𝓜 (tables 𝓤 H 𝓜 𝓡 code.env)))

@@ -1,4 +1,4 @@
--- `table::store_rows` meets its contract: a walk of its MIR, by hand, with a loop. Each turn reads one entry of each column in place, opens the lent rows, writes one, and shuts them again.
+-- `lent::store_rows` meets its contract: a walk of its MIR, by hand, with a loop. Each turn reads one entry of each column in place, opens the lent rows, writes one, and shuts them again.
 -- The invariant, where u rows are left: the first i rows are those of the columns, the rest are as they were, and u + i is their number.
 -- Assumes nothing.
 use mathlib.Core.Path.{_≡_, refl, sym, _∙_, ap, subst}
@@ -47,19 +47,20 @@ use denote.Triple.Spec.{Meets, tripleOf}
 use denote.Triple.Table.{entered}
 use denote.Triple.Walked.{says, needs, Stays, stay-slice, stay-none, walkOf, goes-slice, goes-none, Walks, ends-at, walked, walk-meets}
 use denote.Exit.{yes}
 use Rattle.table.specs.declared.Row.{Row}
 use Rattle.table.specs.declared.Columns.{Columns}
-use Rattle.table.proofs.Element.{elem}
-use Rattle.table.proofs.Held.{values, values-at, values-long, machine, IsColumns, row-stored}
-use Rattle.table.proofs.Rows.{rowOf, front, front-none, front-long, front-more}
+use Rattle.lent.proofs.Element.{elem}
+use Rattle.lent.proofs.Held.{values, values-at, values-long, machine, IsColumns, row-stored}
+use Rattle.table.proofs.Rows.{rowOf}
+use Rattle.lent.proofs.Loading.{front, front-none, front-long, front-more}
 use Rattle.table.proofs.Row as T
 use Rattle.table.proofs.Row.Laws as T′
 use Rattle.table.proofs.Columns as B
 use Rattle.table.proofs.Columns.Laws as B′
-use Rattle.table.proofs.store_rows.Key.{name as #table·store-rows}
-use Rattle.table.proofs.store_rows as store-rows
-use Rattle.table.proofs.store_rows.Statement as stated
-use Rattle.table.proofs.store_rows.Code as code
+use Rattle.lent.proofs.store_rows.Key.{name as #lent·store-rows}
+use Rattle.lent.proofs.store_rows as store-rows
+use Rattle.lent.proofs.store_rows.Statement as stated
+use Rattle.lent.proofs.store_rows.Code as code
 
 abbrev R : RattleType
 R = T.the-row
@@ -337,5 +338,5 @@ pub store-rows-spec : {M : Type 1} → stated.statement M
 unfolding code.routine tablesOf
 store-rows-spec 𝓤 H 𝓜 𝓖 𝓡 =
     entered 𝓤 H (tripleOf 𝓤 H (𝓖 .A) store-rows.signature (store-rows.spec 𝓤 H (𝓖 .A) (𝓜 .mem) (𝓡 .run)))
-    (tables 𝓤 H 𝓜 𝓡 code.env .C) (tables 𝓤 H 𝓜 𝓡 code.env .Λ) #table·store-rows code.function (code.unfolded 𝓤 H 𝓜 𝓡)
+    (tables 𝓤 H 𝓜 𝓡 code.env .C) (tables 𝓤 H 𝓜 𝓡 code.env .Λ) #lent·store-rows code.function (code.unfolded 𝓤 H 𝓜 𝓡)
     (store-meets 𝓤 H (𝓖 .A) (givenOf 𝓤 H 𝓜 𝓖) (𝓜 .mem) (𝓡 .run) (tablesOf 𝓤 H 𝓜 (tables 𝓤 H 𝓜 𝓡 code.env)))

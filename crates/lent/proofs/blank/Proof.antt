@@ -1,0 +1,14 @@
+-- `lent::blank` meets its contract: the columns of no rows are 512 zeros each.
+-- Assumes nothing.
+use mathlib.Core.Path.{refl}
+use Rattle.table.specs.Table.{destinations, dues}
+use Rattle.table.specs.Steps.{columns, column, sources}
+use Rattle.lent.proofs.blank.Statement.{statement}
+use Rattle.lent.proofs.blank.Tie as tie
+
+returns : tie.Need-returns
+unfolding columns column sources destinations dues
+returns c = refl
+
+pub blank-spec : {M : Type 1} → statement M
+blank-spec = tie.close (tie.spec returns)
