@@ -17,7 +17,8 @@ use Rattle.table.specs.declared.Verdict.{Verdict}
 use Rattle.table.specs.Steps.{listed}
 use Rattle.area.specs.Area.{areaOf, nodesIn, rowsIn}
 use Rattle.area.proofs.Areas.{nodes-in-area, rows-in-area}
-use Rattle.edit.specs.Edit.{Edit, Opened, Edited, afterEdits, rowsBy}
+use Rattle.edit.specs.Edit.{Opened, Edited, afterEdits, rowsBy}
+use Rattle.judge.specs.Judge.{Edit}
 use Rattle.edit.proofs.Promises.{edits-make-rows}
 use Rattle.catalogue.specs.Catalogue as Catalogue
 use Rattle.catalogue.specs.Catalogue.{Put}

@@ -23,7 +23,8 @@ use Rattle.area.specs.Area.{areaOf}
 use Rattle.edit.specs.declared.Entry.{Entry}
 use Rattle.edit.specs.declared.Entry.the-variants.{Shown, Refused as NotShown}
 use Rattle.edit.specs.Edit as Edit
-use Rattle.edit.specs.Edit.{Edit, sizeRefusal, editRefusal, aboutRow, verdictBy}
+use Rattle.edit.specs.Edit.{editRefusal, aboutRow}
+use Rattle.judge.specs.Judge.{Edit, sizeRefusal, verdictBy}
 use Rattle.catalogue.specs.Catalogue as Catalogue
 use Rattle.catalogue.specs.Catalogue.{numbers, fields, verdictOn, isIn, sentence, labelOf}
 use Rattle.panel.specs.declared.PlanAnswer.{PlanAnswer}
