@@ -26,10 +26,11 @@ rowNumbers r = r .src ∷ r .dst ∷ r .due ∷ []
 unfoldable pub rowBy : (ℕ → ℕ) → Row
 rowBy f = record { src = f 0; dst = f 1; due = f 2 }
 
--- Where the loads begin: behind the number of nodes and the number of rows. Where the rows begin: behind the loads.
+-- Where the loads begin: behind the number of nodes and the number of rows.
 abbrev pub loads-begin : ℕ
 loads-begin = 2
 
+-- Where the rows begin: behind the loads.
 abbrev pub rows-begin : ℕ
 rows-begin = loads-begin + most-links
 

@@ -14,21 +14,25 @@ use ring::Node;
 use table::Columns;
 use table::Row;
 
-// The most links that a ring may have, and the most rows that a table may have.
+// The most links that a ring may have.
 pub const MOST_LINKS: usize = 32;
 
+// The most rows that a table may have.
 pub const MOST_ROWS: usize = 512;
 
-// How many numbers a row has, and where the loads and the rows begin in an area.
+// How many numbers a row has in an area.
 pub const ROW_WIDTH: usize = 3;
 
+// Where the loads begin, behind the number of nodes and the number of rows.
 pub const LOADS_BEGIN: usize = 2;
 
+// Where the rows begin, behind the loads.
 pub const ROWS_BEGIN: usize = LOADS_BEGIN + MOST_LINKS;
 
-// How many numbers an area has, and the area that a table is lent.
+// How many numbers an area has.
 pub const ROOM: usize = ROWS_BEGIN + ROW_WIDTH * MOST_ROWS;
 
+// The area that is lent for a table.
 pub type Area = [u16; ROOM];
 
 // A link, and how many rows cross it.

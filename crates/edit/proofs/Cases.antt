@@ -12,7 +12,7 @@ use Rattle.table.specs.declared.Verdict.the-variants.{Good, Refused}
 use Rattle.table.specs.Table.{refuse, rowRefusal}
 use Rattle.area.specs.declared.LinkLoad.{LinkLoad}
 use Rattle.area.specs.Area.{crosses, load, rowNumbers, rowBy, numbers, laid, areaOf, loadIn, rowIn, rowsIn, loadsIn}
-use Rattle.area.specs.Area.{busiestIn}
+use Rattle.area.specs.Area.{busiestIn, rows-begin, room}
 use Rattle.edit.specs.declared.Entry.the-variants as entry
 use Rattle.judge.specs.Judge.{Edit, Add, Change, Remove, firstOf, sizeRefusal, numberRefusal, refusalOf}
 use Rattle.judge.specs.Judge.{rowNamed, verdictBy}
@@ -129,3 +129,7 @@ rows-asked : map (entryOf single) (0 ∷ 1 ∷ 2 ∷ [])
     ≡ entry.Refused (refuse 12 0 0) ∷ entry.Shown (row 0 1 1) ∷ entry.Refused (refuse 12 2 0) ∷ []
 unfolding row single load rowNumbers rowBy numbers laid areaOf rowIn firstOf sizeRefusal numberRefusal refusalOf rowNamed entryOf
 rows-asked = refl
+
+-- Where the rows begin in an area, and how many numbers it has: the header for C has the second.
+sizes : (rows-begin ≡ 34) × (room ≡ 1570)
+sizes = (refl, refl)

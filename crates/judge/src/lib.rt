@@ -9,9 +9,10 @@ use table::Refusal;
 use table::Row;
 use table::row_refusal;
 
-// The most nodes and the most rows, as numbers of an area.
+// The most nodes, as a number of an area: as many as links.
 const NODES: u16 = MOST_LINKS as u16;
 
+// The most rows, as a number of an area.
 const ROWS: u16 = MOST_ROWS as u16;
 
 // What is wrong with the size of a table: 1 for its nodes, 2 for more than 512 rows, 0 where nothing is.

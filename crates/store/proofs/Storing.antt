@@ -1,6 +1,7 @@
 -- What the stores of an edit make of a laid area.
 --     way-counted                              the counts of a row's way stepped
 --     row-added, row-changed, row-removed      the row put in or taken out, and the number of rows
+--     way-put, row-put                         the part of the area that is lent for each
 --     added, changed, removed                  the same for an area as it was lent, in the words of the promise
 -- Assumes nothing.
 use mathlib.Core.Path.{_≡_, refl, _∙_, ap, sym}
@@ -22,7 +23,7 @@ use Rattle.area.proofs.RowNumbers.{numbers-long, numbers-cons, numbers-parted, 
 use Rattle.area.proofs.Areas.{head, head-long, laid-is, laid-again, rows-counted}
 use Rattle.judge.specs.Judge.{Add, Change, Remove}
 use Rattle.store.specs.Store.{stepFor, loadAfter, rowsAfter, behindAfter, edited}
-use Rattle.store.specs.Steps.{steppedWay, Roomy, There}
+use Rattle.store.specs.Steps.{steppedWay, wayStepped, rowPut, Roomy, There}
 
 -- A part put into a list behind a front, and a part taken out of it.
 put-at : (p q ys : List ℕ) (a m : ℕ) → length p ≡ a → putMid a m (p ++ q) ys ≡ p ++ (ys ++ drop m q)
@@ -228,16 +229,30 @@ module _ (n : ℕ) (f : ℕ → ℕ) (rows : List Row) (behind : List ℕ) where
           ∙ rw (moved, left)
           (ap (λ (l : List ℕ). numbers (take i rows) ++ l) (sym (append-assoc (numbers later) zeros behind)))
 
--- The counts of a way stepped, in an area that is known to be laid out so.
-counted : (up : Bool) (n : ℕ) (f : ℕ → ℕ) (rows : List Row) (behind s counts : List ℕ) (r : Row)
-    → s ≡ laid n f rows behind
+-- The counts of a way put in their place.
+pub way-put : (up : Bool) (n : ℕ) (r : Row) (s counts : List ℕ)
     → counts ≡ steppedWay up n r (countsOf s)
-    → withCounts s counts ≡ laid n (λ p. stepFor up n r p (f p)) rows behind
-counted up n f rows behind s counts r e so =
-    let same : counts ≡ steppedWay up n r (countsOf (laid n f rows behind)) =
-    so ∙ ap (λ (l : List ℕ). steppedWay up n r (countsOf l)) e
-    in
-    ap (λ (l : List ℕ). withCounts l counts) e ∙ way-counted n f rows behind up r counts same
+    → withCounts s counts ≡ wayStepped up n r s
+unfolding wayStepped
+way-put up n r s counts so =
+    ap (λ (l : List ℕ). take loads-begin s ++ (l ++ drop most-links (drop loads-begin s))) so
+    ∙ ap (λ (l : List ℕ). take loads-begin s ++ (steppedWay up n r (countsOf s) ++ l))
+    (drop-drop most-links loads-begin s)
+
+-- The numbers of a row put in their place.
+pub row-put : (i : ℕ) (r : Row) (s ys : List ℕ) → ys ≡ rowNumbers r → withRow s (rowPlace i) ys ≡ rowPut i r s
+unfolding rowPut
+row-put i r s ys so =
+    ap (λ (l : List ℕ). take at s ++ (l ++ drop (at + row-width - at) (drop at s))) so
+    ∙ ap (λ (l : List ℕ). take at s ++ (rowNumbers r ++ l)) past
+  where
+    at : ℕ
+    at = rowPlace i
+
+    past : drop (at + row-width - at) (drop at s) ≡ drop (rowPlace (suc i)) s
+    past =
+        let next : at + (at + row-width - at) ≡ rowPlace (suc i) = omega arith in
+        drop-drop (at + row-width - at) at s ∙ ap (λ (k : ℕ). drop k s) next
 
 -- The stores, in an area as it was lent.
 module _ (s : List ℕ) where
@@ -253,30 +268,43 @@ module _ (s : List ℕ) where
   laid-here whole few = sym (laid-again s whole few)
 
   -- A way counted, where the counts were f.
-  counted-here : (up : Bool) (f : ℕ → ℕ) (t counts : List ℕ) (r : Row)
+  counted : (up : Bool) (f : ℕ → ℕ) (t t′ : List ℕ) (r : Row)
       → t ≡ laidWith f
-      → counts ≡ steppedWay up (nodesIn s) r (countsOf t)
-      → withCounts t counts ≡ laidWith (λ p. stepFor up (nodesIn s) r p (f p))
-  counted-here up f t counts r = counted up (nodesIn s) f (rowsIn s) behindIn t counts r
+      → t′ ≡ wayStepped up (nodesIn s) r t
+      → t′ ≡ laidWith (λ p. stepFor up (nodesIn s) r p (f p))
+  counted up f t t′ r e so =
+      so ∙ ap (wayStepped up (nodesIn s) r) e
+      ∙ sym (way-put up (nodesIn s) r (laidWith f) (steppedWay up (nodesIn s) r (countsOf (laidWith f))) refl)
+      ∙ way-counted (nodesIn s) f (rowsIn s) behindIn up r _ refl
+
+  -- A row put, where the counts were f.
+  put : (i : ℕ) (f : ℕ → ℕ) (t t′ : List ℕ) (r : Row)
+      → t ≡ laidWith f
+      → t′ ≡ rowPut i r t
+      → t′ ≡ withRow (laidWith f) (rowPlace i) (rowNumbers r)
+  put i f t t′ r e so = so ∙ ap (rowPut i r) e ∙ sym (row-put i r (laidWith f) (rowNumbers r) refl)
 
   -- The way of a new row counted in, the row put behind the last, and the number of rows raised.
-  pub added : (r : Row) (counts ys : List ℕ) (at : ℕ)
+  pub added : (r : Row) (t u : List ℕ)
       → Roomy s
-      → at ≡ rowPlace (countIn s)
-      → counts ≡ steppedWay true (nodesIn s) r (countsOf s)
-      → ys ≡ rowNumbers r
-      → set (withRow (withCounts s counts) at ys) 1 (countIn s + 1) ≡ edited s (Add r)
+      → t ≡ wayStepped true (nodesIn s) r s
+      → u ≡ rowPut (countIn s) r t
+      → set u 1 (countIn s + 1) ≡ edited s (Add r)
   unfolding edited loadAfter rowsAfter behindAfter
-  added r counts ys at roomy e so is =
+  added r t u roomy so is =
       let here = laid-here (roomy .whole) (omega (arith, roomy .more)) in
       let last : at ≡ rowPlace (length (rowsIn s)) = omega (arith, rows-counted s) in
       let more : countIn s + 1 ≡ length (rowsIn s) + 1 = omega (arith, rows-counted s) in
-      let past : rowPlace (countIn s) + row-width ≡ rowPlace (suc (countIn s)) = omega arith in
-      ap (λ (l : List ℕ). set (withRow l at ys) 1 (countIn s + 1)) (counted-here true (loadIn s) s counts r here so)
-      ∙ row-added (nodesIn s) loads (rowsIn s) behindIn r at (countIn s + 1) ys last more is
+      let past : at + row-width ≡ rowPlace (suc (countIn s)) = omega arith in
+      let way = counted true (loadIn s) s t r here so in
+      ap (λ (l : List ℕ). set l 1 (countIn s + 1)) (put (countIn s) loads t u r way is)
+      ∙ row-added (nodesIn s) loads (rowsIn s) behindIn r at (countIn s + 1) (rowNumbers r) last more refl
       ∙ ap (laid (nodesIn s) loads (rowsIn s ++ (r ∷ [])))
-      (drop-drop row-width (rowPlace (countIn s)) s ∙ ap (λ (k : ℕ). drop k s) past)
+      (drop-drop row-width at s ∙ ap (λ (k : ℕ). drop k s) past)
     where
+      at : ℕ
+      at = rowPlace (countIn s)
+
       loads : ℕ → ℕ
       loads p = stepFor true (nodesIn s) r p (loadIn s p)
 
@@ -291,19 +319,18 @@ module _ (s : List ℕ) where
     here = laid-here (there .whole) (there .few)
 
     -- The way of the old row counted out, that of the new one in, and the row put in its place.
-    pub changed : (r old : Row) (out in′ ys : List ℕ) (at : ℕ)
-        → at ≡ rowPlace (k - 1)
+    pub changed : (r old : Row) (t u v : List ℕ)
         → old ≡ rowIn s (k - 1)
-        → out ≡ steppedWay false (nodesIn s) old (countsOf s)
-        → in′ ≡ steppedWay true (nodesIn s) r (countsOf (withCounts s out))
-        → ys ≡ rowNumbers r
-        → withRow (withCounts (withCounts s out) in′) at ys ≡ edited s (Change k r)
+        → t ≡ wayStepped false (nodesIn s) old s
+        → u ≡ wayStepped true (nodesIn s) r t
+        → v ≡ rowPut (k - 1) r u
+        → v ≡ edited s (Change k r)
     unfolding edited loadAfter rowsAfter behindAfter
-    changed r old out in′ ys at e was so then is =
-        let first = counted-here false (loadIn s) s out old here so in
-        let second = counted-here true fewer (withCounts s out) in′ r first then in
-        ap (λ (l : List ℕ). withRow l at ys) second
-        ∙ row-changed (nodesIn s) loads (rowsIn s) behindIn r (k - 1) at ys index e is
+    changed r old t u v was so then is =
+        let out = counted false (loadIn s) s t old here so in
+        let in′ = counted true fewer t u r out then in
+        put (k - 1) loads u v r in′ is
+        ∙ row-changed (nodesIn s) loads (rowsIn s) behindIn r (k - 1) (rowPlace (k - 1)) (rowNumbers r) index refl refl
         ∙ rw (number, was)
       where
         fewer : ℕ → ℕ
@@ -313,22 +340,22 @@ module _ (s : List ℕ) where
         loads p = stepFor true (nodesIn s) r p (fewer p)
 
     -- The way of the old row counted out, the gap closed, and the number of rows lowered.
-    pub removed : (old : Row) (out ys : List ℕ) (at end : ℕ)
+    pub removed : (old : Row) (t ys : List ℕ) (at end : ℕ)
         → at ≡ rowPlace (k - 1)
         → end ≡ rowPlace (countIn s)
         → old ≡ rowIn s (k - 1)
-        → out ≡ steppedWay false (nodesIn s) old (countsOf s)
-        → ys ≡ drop row-width (midOf at (end - at) (withCounts s out)) ++ zeros
-        → set (putMid at (end - at) (withCounts s out) ys) 1 (countIn s - 1) ≡ edited s (Remove k)
+        → t ≡ wayStepped false (nodesIn s) old s
+        → ys ≡ drop row-width (midOf at (end - at) t) ++ zeros
+        → set (putMid at (end - at) t ys) 1 (countIn s - 1) ≡ edited s (Remove k)
     unfolding edited loadAfter rowsAfter behindAfter
-    removed old out ys at end e g was so is =
-        let first = counted-here false (loadIn s) s out old here so in
+    removed old t ys at end e g was so is =
+        let out = counted false (loadIn s) s t old here so in
         let moved : ys ≡ drop row-width (midOf at (end - at) (laidWith fewer)) ++ zeros =
-        is ∙ ap (λ (l : List ℕ). drop row-width (midOf at (end - at) l) ++ zeros) first
+        is ∙ ap (λ (l : List ℕ). drop row-width (midOf at (end - at) l) ++ zeros) out
         in
         let last : end ≡ rowPlace (length (rowsIn s)) = omega (arith, rows-counted s) in
         let less : countIn s - 1 ≡ length (rowsIn s) - 1 = omega (arith, rows-counted s) in
-        ap (λ (l : List ℕ). set (putMid at (end - at) l ys) 1 (countIn s - 1)) first
+        ap (λ (l : List ℕ). set (putMid at (end - at) l ys) 1 (countIn s - 1)) out
         ∙ row-removed (nodesIn s) fewer (rowsIn s) behindIn (k - 1) at end (countIn s - 1) ys index e last less moved
         ∙ rw (number, was)
       where

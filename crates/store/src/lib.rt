@@ -1,12 +1,13 @@
 // An edit that nothing is wrong with, stored in the area: the loads of the ways stepped, the row put in or taken out.
 ghost use mathlib.Core.Path.{_≡_};
 ghost use mathlib.Core.List.{_++_, map};
-ghost use Prim.Native.Nat.{_≤_};
+ghost use Prim.Native.Nat.{_≤_, _<_};
 ghost use lib.ListN.{length, drop, replicate};
-ghost use Rattle.area.specs.Area.{most-links, row-width, rowNumbers};
+ghost use Rattle.table.specs.Table.{most-rows};
+ghost use Rattle.area.specs.Area.{most-links, row-width, room, rowNumbers};
 ghost use Rattle.judge.specs.Judge.{Add, Change, Remove};
 ghost use Rattle.store.specs.Store.{stepBy, edited};
-ghost use Rattle.store.specs.Steps.{Roomy, There, steppedWay};
+ghost use Rattle.store.specs.Steps.{Roomy, There, steppedWay, wayStepped, rowPut};
 use area::LOADS_BEGIN;
 use area::ROW_WIDTH;
 use area::ROWS_BEGIN;
@@ -58,14 +59,31 @@ fn step_way(nodes: u16, row: Row, up: bool, load: &mut [u16])
     }
 }
 
+// Steps the loads of the links on a row's way.
+fn step_loads(table: &mut [u16], nodes: u16, row: Row, up: bool)
+    requires { ⌜ (length (now table) ≡ room) × (nodes ≤ most-links) ⌝ }
+    ensures { λ _. ⌜ now (table .exit) ≡ wayStepped up nodes row (now (table .entry)) ⌝ }
+{
+    step_way(nodes, row, up, &mut table[LOADS_BEGIN..ROWS_BEGIN]);
+}
+
 // Writes the numbers of a row.
-fn put_row(part: &mut [u16], row: Row)
+fn put_numbers(part: &mut [u16], row: Row)
     requires { ⌜ length (now part) ≡ row-width ⌝ }
     ensures { λ _. ⌜ now (part .exit) ≡ rowNumbers row ⌝ }
 {
     part[0] = row.src;
     part[1] = row.dst;
     part[2] = row.due;
+}
+
+// Puts a row at a place of the table, counted from 0.
+fn put_row(table: &mut [u16], i: usize, row: Row)
+    requires { ⌜ (length (now table) ≡ room) × (i < most-rows) ⌝ }
+    ensures { λ _. ⌜ now (table .exit) ≡ rowPut i row (now (table .entry)) ⌝ }
+{
+    let at = ROWS_BEGIN + ROW_WIDTH * i;
+    put_numbers(&mut table[at..at + ROW_WIDTH], row);
 }
 
 // Takes the first row out of a stretch of rows, moves the later ones down one number, and leaves zeros behind them.
@@ -89,9 +107,8 @@ pub fn add_row(table: &mut [u16], row: Row)
 {
     let nodes = table[0];
     let rows = table[1];
-    let at = ROWS_BEGIN + ROW_WIDTH * rows as usize;
-    step_way(nodes, row, true, &mut table[LOADS_BEGIN..ROWS_BEGIN]);
-    put_row(&mut table[at..at + ROW_WIDTH], row);
+    step_loads(table, nodes, row, true);
+    put_row(table, rows as usize, row);
     table[1] = rows + 1;
 }
 
@@ -102,11 +119,10 @@ pub fn change_row(table: &mut [u16], number: u16, row: Row)
 {
     let nodes = table[0];
     let i = number as usize - 1;
-    let at = ROWS_BEGIN + ROW_WIDTH * i;
     let old = row_in(table, i);
-    step_way(nodes, old, false, &mut table[LOADS_BEGIN..ROWS_BEGIN]);
-    step_way(nodes, row, true, &mut table[LOADS_BEGIN..ROWS_BEGIN]);
-    put_row(&mut table[at..at + ROW_WIDTH], row);
+    step_loads(table, nodes, old, false);
+    step_loads(table, nodes, row, true);
+    put_row(table, i, row);
 }
 
 // Removes a row that is there.
@@ -120,7 +136,7 @@ pub fn remove_row(table: &mut [u16], number: u16)
     let at = ROWS_BEGIN + ROW_WIDTH * i;
     let end = ROWS_BEGIN + ROW_WIDTH * rows as usize;
     let old = row_in(table, i);
-    step_way(nodes, old, false, &mut table[LOADS_BEGIN..ROWS_BEGIN]);
+    step_loads(table, nodes, old, false);
     close_gap(&mut table[at..end]);
     table[1] = rows - 1;
 }

@@ -1,8 +1,7 @@
 -- `store::change_row` meets its contract: the old way is counted out, the new one in, and the row put in its place.
 -- Assumes nothing.
-use mathlib.Core.Path.{refl}
-use borrow.Author.Needs.{needs}
 use Rattle.store.proofs.Storing.{changed}
+use borrow.Author.Needs.{needs}
 use Rattle.store.proofs.change_row.Statement.{statement}
 use Rattle.store.proofs.change_row.Tie as tie
 
@@ -12,53 +11,14 @@ slice-read-nodes c = search needs
 sub-i : tie.Need-sub-i
 sub-i c = search needs
 
-mul-at : tie.Need-mul-at
-mul-at c = search needs
-
-add-at : tie.Need-add-at
-add-at c = search needs
-
 row-in-requires : tie.Need-row-in-requires
 row-in-requires c κs = search needs
 
-sub-step-way : tie.Need-sub-step-way
-sub-step-way c = search needs
+step-loads-requires : tie.Need-step-loads-requires
+step-loads-requires c κs = search needs
 
-part-step-way-start : tie.Need-part-step-way-start
-part-step-way-start c = search needs
-
-part-step-way-end : tie.Need-part-step-way-end
-part-step-way-end c = search needs
-
-step-way-requires : tie.Need-step-way-requires
-step-way-requires c κs = search needs
-
-sub-step-way-2 : tie.Need-sub-step-way-2
-sub-step-way-2 c = search needs
-
-part-step-way-start-2 : tie.Need-part-step-way-start-2
-part-step-way-start-2 c = search needs
-
-part-step-way-end-2 : tie.Need-part-step-way-end-2
-part-step-way-end-2 c = search needs
-
-step-way-requires-2 : tie.Need-step-way-requires-2
-step-way-requires-2 c κs = search needs
-
-add-put-row : tie.Need-add-put-row
-add-put-row c = search needs
-
-mul-put-row : tie.Need-mul-put-row
-mul-put-row c = search needs
-
-sub-put-row : tie.Need-sub-put-row
-sub-put-row c = search needs
-
-part-put-row-start : tie.Need-part-put-row-start
-part-put-row-start c = search needs
-
-part-put-row-end : tie.Need-part-put-row-end
-part-put-row-end c = search needs
+step-loads-requires-2 : tie.Need-step-loads-requires-2
+step-loads-requires-2 c κs = search needs
 
 put-row-requires : tie.Need-put-row-requires
 put-row-requires c κs = search needs
@@ -73,8 +33,8 @@ returns c =
     let read = out .before .before in
     let start = read .before .before .before .before in
     let a = start .args in
-    changed (a .table .now) (a .number) (start .pre) (a .row) _ _ _ _ _ refl (read .row-in .ensures)
-    (out .step-way .ensures) (in′ .step-way2 .ensures) (c .before .before .put-row .ensures)
+    changed (a .table .now) (a .number) (start .pre) (a .row) _ _ _ _ (read .row-in .ensures)
+    (out .step-loads .ensures) (in′ .step-loads2 .ensures) (c .before .before .put-row .ensures)
 
 pub change-row-spec : {M : Type 1} → statement M
 change-row-spec =
@@ -82,22 +42,9 @@ change-row-spec =
     (tie.spec
     slice-read-nodes
     sub-i
-    mul-at
-    add-at
     row-in-requires
-    sub-step-way
-    part-step-way-start
-    part-step-way-end
-    step-way-requires
-    sub-step-way-2
-    part-step-way-start-2
-    part-step-way-end-2
-    step-way-requires-2
-    add-put-row
-    mul-put-row
-    sub-put-row
-    part-put-row-start
-    part-put-row-end
+    step-loads-requires
+    step-loads-requires-2
     put-row-requires
     same-length
     returns)

@@ -2,8 +2,8 @@
 -- Assumes nothing.
 use lib.ListN.{length-set}
 use mathlib.Core.Path.{refl}
-use borrow.Author.Needs.{needs}
 use Rattle.store.proofs.Storing.{removed}
+use borrow.Author.Needs.{needs}
 use Rattle.store.proofs.remove_row.Statement.{statement}
 use Rattle.store.proofs.remove_row.Tie as tie
 
@@ -34,17 +34,8 @@ add-end c = search needs
 row-in-requires : tie.Need-row-in-requires
 row-in-requires c κs = search needs
 
-sub-step-way : tie.Need-sub-step-way
-sub-step-way c = search needs
-
-part-step-way-start : tie.Need-part-step-way-start
-part-step-way-start c = search needs
-
-part-step-way-end : tie.Need-part-step-way-end
-part-step-way-end c = search needs
-
-step-way-requires : tie.Need-step-way-requires
-step-way-requires c κs = search needs
+step-loads-requires : tie.Need-step-loads-requires
+step-loads-requires c κs = search needs
 
 mul-close-gap : tie.Need-mul-close-gap
 mul-close-gap c = search needs
@@ -77,7 +68,7 @@ returns c =
     let start = read .before .before .before .before .before in
     let a = start .args in
     removed (a .table .now) (a .number) (start .pre) _ _ _ _ _ refl refl (read .row-in .ensures)
-    (out .step-way .ensures) (c .before .before .close-gap .ensures)
+    (out .step-loads .ensures) (c .before .before .close-gap .ensures)
 
 pub remove-row-spec : {M : Type 1} → statement M
 remove-row-spec =
@@ -92,10 +83,7 @@ remove-row-spec =
     mul-end
     add-end
     row-in-requires
-    sub-step-way
-    part-step-way-start
-    part-step-way-end
-    step-way-requires
+    step-loads-requires
     mul-close-gap
     sub-close-gap
     part-close-gap-start
