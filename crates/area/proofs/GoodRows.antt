@@ -37,7 +37,9 @@ module _ (n : ℕ) where
   good-judged [] above e = tt
   good-judged (r ∷ rows) above e = go (eqb (rowRefusal n r) 0) refl e (good-judged rows (suc above))
     where
-      go : (b : Bool) → eqb (rowRefusal n r) 0 ≡ b → cond b (judgeRows n rows (suc above)) (Refused (refuse (rowRefusal n r) (suc above) 0)) ≡ Good
+      go : (b : Bool)
+          → eqb (rowRefusal n r) 0 ≡ b
+          → cond b (judgeRows n rows (suc above)) (Refused (refuse (rowRefusal n r) (suc above) 0)) ≡ Good
           → (judgeRows n rows (suc above) ≡ Good → AllGood n rows) → (rowRefusal n r ≡ 0) × AllGood n rows
       go true f e rest = (eqb-true (rowRefusal n r) 0 f, rest e)
       go false f e rest = absurd (never-good _ e)
@@ -68,7 +70,9 @@ module _ (n : ℕ) where
   unfolding judge
   all-good rows e = go (ltb n 2 || ltb most-links n) (ltb most-rows (length rows)) e
     where
-      go : (a b : Bool) → cond a (Refused (refuse 1 0 0)) (cond b (Refused (refuse 2 0 0)) (judgeRows n rows 0)) ≡ Good → AllGood n rows
+      go : (a b : Bool)
+          → cond a (Refused (refuse 1 0 0)) (cond b (Refused (refuse 2 0 0)) (judgeRows n rows 0)) ≡ Good
+          → AllGood n rows
       go true b e = absurd (never-good _ e)
       go false true e = absurd (never-good _ e)
       go false false e = good-judged rows 0 e

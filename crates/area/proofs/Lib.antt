@@ -1,3 +1,4 @@
+pub mod RowNumbers
 pub mod Areas
 pub mod Loads
 pub mod GoodRows

@@ -30,7 +30,8 @@ module _ (n p : ℕ) where
   load-append (r ∷ xs) ys = omega (arith, load-append xs ys)
 
   -- A row put between two lists of rows is counted in.
-  pub load-between : (xs : List Row) (r : Row) (ys : List Row) → load n (xs ++ r ∷ ys) p ≡ counted n r p + load n (xs ++ ys) p
+  pub load-between : (xs : List Row) (r : Row) (ys : List Row)
+      → load n (xs ++ r ∷ ys) p ≡ counted n r p + load n (xs ++ ys) p
   load-between xs r ys = omega (arith, load-append xs (r ∷ ys), load-cons r ys, load-append xs ys)
 
   -- A row added at the end is counted in.

@@ -20,7 +20,10 @@ module _ (loads : List ℕ) where
   busiest = busiestIn loads .link .0
 
   -- The busiest link of a ring that has a link is one of its links, has the load named, and no link has more.
-  pub busiest-is-most : 0 < length loads → (busiest < length loads) × (getD loads busiest 0 ≡ busiestIn loads .load) × ((p : ℕ) → getD loads p 0 ≤ busiestIn loads .load)
+  pub busiest-is-most : 0 < length loads
+      → (busiest < length loads)
+      × (getD loads busiest 0 ≡ busiestIn loads .load)
+      × ((p : ℕ) → getD loads p 0 ≤ busiestIn loads .load)
   unfolding busiestIn
   busiest-is-most some =
       let there = largest-there loads some in

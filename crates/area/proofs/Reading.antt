@@ -1,7 +1,6 @@
 -- What the functions that only read an area show.
 --     load-there, load-none      the load of a link that the ring has, and of one that it hasn't
 --     loads-part                 the loads are one part of the area
---     place-fits                 a first place lies in the list, or at its end
 --     listed-columns             the columns hold the rows of the area
 -- Assumes nothing.
 use mathlib.Core.Path.{_≡_, refl, _∙_, ap, sym}
@@ -17,35 +16,59 @@ use lib.Seq.{getD-take, getD-drop}
 use Rattle.lists.proofs.Build.{length-build, getD-build, is-build, build-ext}
 use Rattle.table.specs.Table.{most-rows}
 use Rattle.table.specs.Steps.{listed}
-use Rattle.area.specs.Area.{most-links, nodesIn, countIn, loadIn, loadsIn, rowIn, rowsIn}
-use Rattle.area.specs.Steps.{thirds, room}
+use Rattle.area.specs.Area.{most-links, loads-begin, rowPlace, room, rowBy}
+use Rattle.area.specs.Area.{nodesIn, countIn, loadIn, loadsIn, rowIn, rowsIn}
+use Rattle.area.specs.Steps.{columnIn}
 
 module _ (s : List ℕ) (m : ℕ) (most : m ≡ min (nodesIn s) most-links) where
-  pub load-there : (p : ℕ) → p < m → getD s (2 + p) 0 ≡ getD (loadsIn s) p 0
+  pub load-there : (p : ℕ) → p < m → getD s (loads-begin + p) 0 ≡ getD (loadsIn s) p 0
   unfolding loadsIn loadIn
   load-there p h = sym (getD-build (min (nodesIn s) most-links) (loadIn s) p 0 (omega arith))
 
   pub load-none : (p : ℕ) → m ≤ p → 0 ≡ getD (loadsIn s) p 0
   unfolding loadsIn
-  load-none p h = sym (List·getD-eq-default (loadsIn s) 0 {n = p} (omega (arith, length-build (min (nodesIn s) most-links) (loadIn s))))
+  load-none p h =
+      let many = length-build (min (nodesIn s) most-links) (loadIn s) in
+      sym (List·getD-eq-default (loadsIn s) 0 {n = p} (omega (arith, many)))
 
-  pub loads-part : length s ≡ room → midOf 2 (2 + m - 2) s ≡ loadsIn s
+  pub loads-part : length s ≡ room → midOf loads-begin (loads-begin + m - loads-begin) s ≡ loadsIn s
   unfolding loadsIn loadIn
   loads-part whole =
-      is-build (min (nodesIn s) most-links) (loadIn s) 0 (midOf 2 (2 + m - 2) s) (mid-len 2 (2 + m) s (omega arith) ∙ omega arith) (λ p h. getD-take (2 + m - 2) (drop 2 s) p 0 (omega arith) ∙ getD-drop 2 s p 0)
+      is-build (min (nodesIn s) most-links) (loadIn s) 0 (midOf loads-begin long s)
+      (mid-len loads-begin (loads-begin + m) s (omega arith) ∙ omega arith) entry
+    where
+      long : ℕ
+      long = loads-begin + m - loads-begin
 
--- an entry of a column, inside it and past its end
-third-at : (s : List ℕ) (at i : ℕ) → length s ≡ room → 34 ≤ at → at ≤ 36 → getD (thirds at s) i 0 ≡ getD s (at + 3 * i) 0
-unfolding thirds
-third-at s at i whole low high = go (ltb i most-rows) refl
+      entry : (p : ℕ) → p < min (nodesIn s) most-links → getD (midOf loads-begin long s) p 0 ≡ loadIn s p
+      entry p h = getD-take long (drop loads-begin s) p 0 (omega arith) ∙ getD-drop loads-begin s p 0
+
+-- An entry of a column, inside it and past its end.
+column-at : (s : List ℕ) (field i : ℕ)
+    → length s ≡ room
+    → getD (columnIn field s) i 0 ≡ getD s (rowPlace i + field) 0
+unfolding columnIn
+column-at s field i whole = go (ltb i most-rows) refl
   where
-    go : (b : Bool) → ltb i most-rows ≡ b → getD (thirds at s) i 0 ≡ getD s (at + 3 * i) 0
-    go true e = getD-build most-rows (λ j. getD s (at + 3 * j) 0) i 0 (ltb-true i most-rows e)
+    entry : ℕ → ℕ
+    entry j = getD s (rowPlace j + field) 0
+
+    go : (b : Bool) → ltb i most-rows ≡ b → getD (columnIn field s) i 0 ≡ getD s (rowPlace i + field) 0
+    go true e = getD-build most-rows entry i 0 (ltb-true i most-rows e)
     go false e =
         let past = ltb-false i most-rows e in
-        List·getD-eq-default (thirds at s) 0 {n = i} (omega (arith, length-build most-rows (λ j. getD s (at + 3 * j) 0))) ∙ sym (List·getD-eq-default s 0 {n = at + 3 * i} (omega arith))
+        List·getD-eq-default (columnIn field s) 0 {n = i} (omega (arith, length-build most-rows entry))
+        ∙ sym (List·getD-eq-default s 0 {n = rowPlace i + field} (omega arith))
 
-pub listed-columns : (s src dst due : List ℕ) → length s ≡ room → src ≡ thirds 34 s → dst ≡ thirds 35 s → due ≡ thirds 36 s → listed (countIn s) (record { src = src; dst = dst; due = due }) ≡ rowsIn s
-unfolding listed rowsIn rowIn
-listed-columns s src dst due whole a b c =
-    build-ext (countIn s) _ (rowIn s) (λ i h. cc (ap (λ (l : List ℕ). getD l i 0) a ∙ third-at s 34 i whole (omega arith) (omega arith), ap (λ (l : List ℕ). getD l i 0) b ∙ third-at s 35 i whole (omega arith) (omega arith), ap (λ (l : List ℕ). getD l i 0) c ∙ third-at s 36 i whole (omega arith) (omega arith)))
+-- The columns, each of one number of every row, hold the rows of the area.
+pub listed-columns : (s src dst due : List ℕ)
+    → length s ≡ room
+    → src ≡ columnIn 0 s
+    → dst ≡ columnIn 1 s
+    → due ≡ columnIn 2 s
+    → listed (countIn s) (record { src = src; dst = dst; due = due }) ≡ rowsIn s
+unfolding listed rowsIn rowIn rowBy
+listed-columns s src dst due whole a b c = build-ext (countIn s) _ (rowIn s) (λ i h. cc (at 0 i a, at 1 i b, at 2 i c))
+  where
+    at : {xs : List ℕ} (field i : ℕ) → xs ≡ columnIn field s → getD xs i 0 ≡ getD s (rowPlace i + field) 0
+    at {xs} field i is = ap (λ (l : List ℕ). getD l i 0) is ∙ column-at s field i whole

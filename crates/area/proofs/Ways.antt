@@ -41,7 +41,12 @@ module _ (n p q : ℕ) where
   distance-round h l = past-zero n p q h (omega arith)
 
 -- A link lies on a row's way exactly if it is nearer to the row's source than the destination is.
-pub crosses-by-distance : (n : ℕ) (r : Row) (p : ℕ) → p < n → r .src < n → r .dst < n → (r .src ≡ r .dst → ⊥) → crosses n r p ≡ ltb (distance n (r .src) p) (distance n (r .src) (r .dst))
+pub crosses-by-distance : (n : ℕ) (r : Row) (p : ℕ)
+    → p < n
+    → r .src < n
+    → r .dst < n
+    → (r .src ≡ r .dst → ⊥)
+    → crosses n r p ≡ ltb (distance n (r .src) p) (distance n (r .src) (r .dst))
 unfolding crosses
 crosses-by-distance n r p hp hs hd apart = rw (lt-ltb p n hp) (go (ltb s d) refl (leb s p) refl)
   where
@@ -51,23 +56,31 @@ crosses-by-distance n r p hp hs hd apart = rw (lt-ltb p n hp) (go (ltb s d) refl
     d : ℕ
     d = r .dst
 
-    go : (a : Bool) → ltb s d ≡ a → (b : Bool) → leb s p ≡ b → cond a (b && ltb p d) (b || ltb p d) ≡ ltb (distance n s p) (distance n s d)
+    go : (a : Bool)
+        → ltb s d ≡ a
+        → (b : Bool)
+        → leb s p ≡ b
+        → cond a (b && ltb p d) (b || ltb p d) ≡ ltb (distance n s p) (distance n s d)
     go true ea true eb =
         let h : s < d = ltb-true s d ea in
         let l : s ≤ p = leb-true s p eb in
-        same-gap p d (distance n s p) (distance n s d) (omega (arith, distance-ahead n s p l hp, distance-ahead n s d (omega arith) hd))
+        same-gap p d (distance n s p) (distance n s d)
+        (omega (arith, distance-ahead n s p l hp, distance-ahead n s d (omega arith) hd))
     go true ea false eb =
         let h : s < d = ltb-true s d ea in
         let l : p < s = leb-false s p eb in
-        sym (le-ltb (distance n s p) (distance n s d) (omega (arith, distance-round n s p l hs, distance-ahead n s d (omega arith) hd)))
+        let far = distance-ahead n s d (omega arith) hd in
+        sym (le-ltb (distance n s p) (distance n s d) (omega (arith, distance-round n s p l hs, far)))
     go false ea true eb =
         let h : d < s = omega (arith, ltb-false s d ea, apart) in
         let l : s ≤ p = leb-true s p eb in
-        sym (lt-ltb (distance n s p) (distance n s d) (omega (arith, distance-ahead n s p l hp, distance-round n s d h hs)))
+        let far = distance-round n s d h hs in
+        sym (lt-ltb (distance n s p) (distance n s d) (omega (arith, distance-ahead n s p l hp, far)))
     go false ea false eb =
         let h : d < s = omega (arith, ltb-false s d ea, apart) in
         let l : p < s = leb-false s p eb in
-        same-gap p d (distance n s p) (distance n s d) (omega (arith, distance-round n s p l hs, distance-round n s d h hs))
+        same-gap p d (distance n s p) (distance n s d)
+        (omega (arith, distance-round n s p l hs, distance-round n s d h hs))
 
 -- ---- sums over the links
 -- The sum of two rules is the sum of their sums.
@@ -91,11 +104,15 @@ below-long : (n b : ℕ) → b ≤ n → total (build n (below b)) ≡ b
 unfolding total
 below-long zero b h = omega arith
 below-long (suc n) zero h =
-    let never : build n (λ i. below 0 (suc i)) ≡ build n (λ i. 0) = build-ext n (λ i. below 0 (suc i)) (λ i. 0) (λ i l. rw (leb·suc-zero (suc i))) in
+    let never : build n (λ i. below 0 (suc i)) ≡ build n (λ i. 0) =
+    build-ext n (λ i. below 0 (suc i)) (λ i. 0) (λ i l. rw (leb·suc-zero (suc i)))
+    in
     omega (arith, ap total never, total-same n 0)
 below-long (suc n) (suc b) h =
     let first : below (suc b) 0 ≡ 1 = rw (lt-ltb 0 (suc b) (omega arith)) in
-    let rest : build n (λ i. below (suc b) (suc i)) ≡ build n (below b) = build-ext n (λ i. below (suc b) (suc i)) (below b) (λ i l. rw (leb·suc-suc (suc i) b)) in
+    let rest : build n (λ i. below (suc b) (suc i)) ≡ build n (below b) =
+    build-ext n (λ i. below (suc b) (suc i)) (below b) (λ i l. rw (leb·suc-suc (suc i) b))
+    in
     omega (arith, first, ap total rest, below-long n b (omega arith))
 
 -- ---- the way of one row
@@ -123,7 +140,9 @@ module _ (n : ℕ) (r : Row) (good : GoodRow n r) where
       go false e = rw (lt-ltb p (r .src) (leb-false (r .src) p e)) (omega arith)
 
   -- The links on the way and those below the source, summed up.
-  both-sums : (g : ℕ → ℕ) → ((p : ℕ) → p < n → counted n r p + below (r .src) p ≡ g p) → total (build n (counted n r)) + r .src ≡ total (build n g)
+  both-sums : (g : ℕ → ℕ)
+      → ((p : ℕ) → p < n → counted n r p + below (r .src) p ≡ g p)
+      → total (build n (counted n r)) + r .src ≡ total (build n g)
   both-sums g same =
       let sum = total-both n (counted n r) (below (r .src)) in
       let is = build-ext n (λ p. counted n r p + below (r .src) p) g same in
@@ -139,17 +158,24 @@ module _ (n : ℕ) (r : Row) (good : GoodRow n r) where
       go : (b : Bool) → ltb (r .src) (r .dst) ≡ b → total (build n (counted n r)) ≡ distance n (r .src) (r .dst)
       go true e =
           let h : r .src < r .dst = ltb-true (r .src) (r .dst) e in
-          omega (arith, both-sums (below (r .dst)) (ahead h), to, distance-ahead n (r .src) (r .dst) (omega arith) (good .dst-inside))
+          let away = distance-ahead n (r .src) (r .dst) (omega arith) (good .dst-inside) in
+          omega (arith, both-sums (below (r .dst)) (ahead h), to, away)
       go false e =
           let h : r .dst < r .src = omega (arith, ltb-false (r .src) (r .dst) e, good .apart) in
-          omega (arith, both-sums (λ p. 1 + below (r .dst) p) (round h), total-both n (λ p. 1) (below (r .dst)), total-same n 1, to, distance-round n (r .src) (r .dst) h (good .src-inside))
+          let sums = both-sums (λ p. 1 + below (r .dst) p) (round h) in
+          let away = distance-round n (r .src) (r .dst) h (good .src-inside) in
+          omega (arith, sums, total-both n (λ p. 1) (below (r .dst)), total-same n 1, to, away)
 
 -- All loads together are the sum of all distances.
 sum-of-loads : (n : ℕ) (rows : List Row) → AllGood n rows → total (build n (load n rows)) ≡ total (distances n rows)
 unfolding AllGood load distances total
 sum-of-loads n [] g = total-same n 0 ∙ omega arith
-sum-of-loads n (r ∷ rows) g = total-both n (counted n r) (load n rows) ∙ omega (arith, way-long n r (good-row n r (g .0)), sum-of-loads n rows (g .1))
+sum-of-loads n (r ∷ rows) g =
+    total-both n (counted n r) (load n rows)
+    ∙ omega (arith, way-long n r (good-row n r (g .0)), sum-of-loads n rows (g .1))
 
 -- All loads of a well-formed table together are the sends that the planner's summary counts.
-pub loads-sum-to-sends : (n : ℕ) (rows : List Row) → WellFormed n rows → total (build n (load n rows)) ≡ total (distances n rows)
+pub loads-sum-to-sends : (n : ℕ) (rows : List Row)
+    → WellFormed n rows
+    → total (build n (load n rows)) ≡ total (distances n rows)
 loads-sum-to-sends n rows well = sum-of-loads n rows (all-good n rows well)

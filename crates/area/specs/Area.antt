@@ -1,4 +1,5 @@
--- A table as it lies in its lent area, and what is asked of it: document 02, Ask 2. The panel lends one area of 1,570 numbers: the number of nodes, the number of rows, the load of each of 32 links, and three numbers for each of 512 rows.
+-- A table as it lies in its lent area, and what is asked of it: document 02, Ask 2. The panel lends one area: the
+-- number of nodes, the number of rows, the load of each of 32 links, and the numbers of each of 512 rows.
 use Prim.Native.Nat.{ℕ, _+_, _-_, _*_, min}
 use mathlib.Core.Bool.{Bool, cond, _||_, _&&_}
 use mathlib.Core.List.{List, [], _∷_, _++_}
@@ -13,6 +14,34 @@ use Rattle.area.specs.declared.LinkLoad.{LinkLoad}
 abbrev pub most-links : ℕ
 most-links = 32
 
+-- How many numbers a row has in an area.
+abbrev pub row-width : ℕ
+row-width = 3
+
+-- They are its source, its destination and its due slot.
+unfoldable pub rowNumbers : Row → List ℕ
+rowNumbers r = r .src ∷ r .dst ∷ r .due ∷ []
+
+-- The row that has these numbers.
+unfoldable pub rowBy : (ℕ → ℕ) → Row
+rowBy f = record { src = f 0; dst = f 1; due = f 2 }
+
+-- Where the loads begin: behind the number of nodes and the number of rows.
+abbrev pub loads-begin : ℕ
+loads-begin = 2
+
+-- Where the rows begin: behind the loads.
+abbrev pub rows-begin : ℕ
+rows-begin = loads-begin + most-links
+
+-- Where row i begins, counted from 0.
+abbrev pub rowPlace : ℕ → ℕ
+rowPlace i = rows-begin + row-width * i
+
+-- How many numbers an area has.
+abbrev pub room : ℕ
+room = rowPlace most-rows
+
 -- Link p lies on a row's way: from its source up to its destination, round node 0 where that is not above the source.
 unfoldable pub crosses : ℕ → Row → ℕ → Bool
 crosses n r p =
@@ -23,10 +52,10 @@ unfoldable pub load : ℕ → List Row → ℕ → ℕ
 load n [] p = 0
 load n (r ∷ rows) p = cond (crosses n r p) 1 0 + load n rows p
 
--- The numbers of a list of rows, three for each.
+-- The numbers of a list of rows, one row behind the other.
 unfoldable pub numbers : List Row → List ℕ
 numbers [] = []
-numbers (r ∷ rows) = r .src ∷ r .dst ∷ r .due ∷ numbers rows
+numbers (r ∷ rows) = rowNumbers r ++ numbers rows
 
 -- An area laid out: nodes, number of rows, loads, rows, and what stands behind them.
 unfoldable pub laid : (n : ℕ) (loads : ℕ → ℕ) (rows : List Row) (behind : List ℕ) → List ℕ
@@ -34,7 +63,7 @@ laid n loads rows behind = n ∷ length rows ∷ (build most-links loads ++ (num
 
 -- The area of a table: its loads are those of its rows, and zeros stand behind them.
 unfoldable pub areaOf : ℕ → List Row → List ℕ
-areaOf n rows = laid n (load n rows) rows (replicate (3 * (most-rows - length rows)) 0)
+areaOf n rows = laid n (load n rows) rows (replicate (row-width * (most-rows - length rows)) 0)
 
 -- What an area holds, read place by place.
 abbrev pub nodesIn : List ℕ → ℕ
@@ -44,10 +73,10 @@ abbrev pub countIn : List ℕ → ℕ
 countIn s = getD s 1 0
 
 unfoldable pub loadIn : List ℕ → ℕ → ℕ
-loadIn s p = getD s (2 + p) 0
+loadIn s p = getD s (loads-begin + p) 0
 
 unfoldable pub rowIn : List ℕ → ℕ → Row
-rowIn s i = record { src = getD s (34 + 3 * i) 0; dst = getD s (35 + 3 * i) 0; due = getD s (36 + 3 * i) 0 }
+rowIn s i = rowBy (λ field. getD s (rowPlace i + field) 0)
 
 unfoldable pub rowsIn : List ℕ → List Row
 rowsIn s = build (countIn s) (rowIn s)

@@ -11,9 +11,13 @@ use Rattle.table.specs.declared.Verdict.{Verdict}
 use Rattle.table.specs.declared.Verdict.the-variants.{Good, Refused}
 use Rattle.table.specs.Table.{refuse, rowRefusal}
 use Rattle.area.specs.declared.LinkLoad.{LinkLoad}
-use Rattle.area.specs.Area.{crosses, load, numbers, laid, areaOf, loadIn, rowIn, rowsIn, loadsIn, busiestIn}
+use Rattle.area.specs.Area.{crosses, load, rowNumbers, rowBy, numbers, laid, areaOf, loadIn, rowIn, rowsIn, loadsIn}
+use Rattle.area.specs.Area.{busiestIn, rows-begin, room}
 use Rattle.edit.specs.declared.Entry.the-variants as entry
-use Rattle.edit.specs.Edit.{Edit, Add, Change, Remove, firstOf, sizeRefusal, numberRefusal, refusalOf, editRefusal, aboutRow, rowNamed, verdictBy, rowsAfter, stepBy, stepFor, loadAfter, behindAfter, edited, areaAfter, entryOf}
+use Rattle.judge.specs.Judge.{Edit, Add, Change, Remove, firstOf, sizeRefusal, numberRefusal, refusalOf}
+use Rattle.judge.specs.Judge.{rowNamed, verdictBy}
+use Rattle.store.specs.Store.{rowsAfter, stepBy, stepFor, loadAfter, behindAfter, edited}
+use Rattle.edit.specs.Edit.{editRefusal, aboutRow, areaAfter, entryOf}
 
 -- A row by source, destination and due slot; a refusal of an edit; a link and its load.
 row : (src dst due : ℕ) → Row
@@ -56,11 +60,13 @@ computed : List ℕ → List Step → List Step
 computed s [] = []
 computed s (c ∷ cs) =
     let after = areaAfter s (c .edit) in
-    step (c .edit) (verdictBy (editRefusal s (c .edit)) (aboutRow s (c .edit))) (rowsIn after) (loadsIn after) (busiestIn (loadsIn after)) ∷ computed after cs
+    step (c .edit) (verdictBy (editRefusal s (c .edit)) (aboutRow s (c .edit))) (rowsIn after) (loadsIn after)
+    (busiestIn (loadsIn after))
+    ∷ computed after cs
 
 -- Every step comes out as expected.
 steps-come-out : computed (areaOf 4 []) steps ≡ steps
-unfolding row refused busiest step steps computed largest rowRefusal crosses load numbers laid areaOf loadIn rowIn rowsIn firstOf sizeRefusal numberRefusal refusalOf aboutRow rowNamed verdictBy rowsAfter stepBy stepFor loadAfter behindAfter edited areaAfter loadsIn firstPlace busiestIn
+unfolding row refused busiest step steps computed largest rowRefusal crosses load rowNumbers rowBy numbers laid areaOf loadIn rowIn rowsIn firstOf sizeRefusal numberRefusal refusalOf aboutRow rowNamed verdictBy rowsAfter stepBy stepFor loadAfter behindAfter edited areaAfter loadsIn firstPlace busiestIn
 steps-come-out = refl
 
 -- An area, an edit of it, and the refusal expected.
@@ -100,20 +106,30 @@ wrongs =
     ∷ []
 
 -- Every wrong edit is refused as expected.
-wrongs-are-refused : map (λ (w : Wrong). verdictBy (editRefusal (w .area) (w .edit)) (aboutRow (w .area) (w .edit))) wrongs ≡ map (λ (w : Wrong). refused (w .number) (w .about)) wrongs
-unfolding row refused wrong single full wrongs rowRefusal load numbers laid areaOf firstOf sizeRefusal numberRefusal refusalOf aboutRow rowNamed verdictBy
+wrongs-are-refused :
+    map (λ (w : Wrong). verdictBy (editRefusal (w .area) (w .edit)) (aboutRow (w .area) (w .edit))) wrongs
+    ≡ map (λ (w : Wrong). refused (w .number) (w .about)) wrongs
+unfolding row refused wrong single full wrongs rowRefusal load rowNumbers numbers laid areaOf firstOf sizeRefusal numberRefusal refusalOf aboutRow rowNamed verdictBy
 wrongs-are-refused = refl
 
 -- Tables for 1 to 33 nodes, opened; an opened one has no rows and no loads, and its busiest link is link 0 with load 0.
-openings : map (λ (n : ℕ). verdictBy (sizeRefusal n 0) 0) (1 ∷ 2 ∷ 32 ∷ 33 ∷ []) ≡ refused 1 0 ∷ Good ∷ Good ∷ refused 1 0 ∷ []
+openings : map (λ (n : ℕ). verdictBy (sizeRefusal n 0) 0) (1 ∷ 2 ∷ 32 ∷ 33 ∷ [])
+    ≡ refused 1 0 ∷ Good ∷ Good ∷ refused 1 0 ∷ []
 unfolding refused sizeRefusal rowNamed verdictBy
 openings = refl
 
-empty-table : (rowsIn (areaOf 4 []) ≡ []) × (loadsIn (areaOf 4 []) ≡ 0 ∷ 0 ∷ 0 ∷ 0 ∷ []) × (busiestIn (loadsIn (areaOf 4 [])) ≡ busiest 0 0)
-unfolding busiest largest load numbers laid areaOf loadIn rowIn rowsIn loadsIn firstPlace busiestIn
+empty-table : (rowsIn (areaOf 4 []) ≡ [])
+    × (loadsIn (areaOf 4 []) ≡ 0 ∷ 0 ∷ 0 ∷ 0 ∷ [])
+    × (busiestIn (loadsIn (areaOf 4 [])) ≡ busiest 0 0)
+unfolding busiest largest load rowNumbers rowBy numbers laid areaOf loadIn rowIn rowsIn loadsIn firstPlace busiestIn
 empty-table = (refl, refl, refl)
 
 -- Rows of a table of one row, asked for.
-rows-asked : map (entryOf single) (0 ∷ 1 ∷ 2 ∷ []) ≡ entry.Refused (refuse 12 0 0) ∷ entry.Shown (row 0 1 1) ∷ entry.Refused (refuse 12 2 0) ∷ []
-unfolding row single load numbers laid areaOf rowIn firstOf sizeRefusal numberRefusal refusalOf rowNamed entryOf
+rows-asked : map (entryOf single) (0 ∷ 1 ∷ 2 ∷ [])
+    ≡ entry.Refused (refuse 12 0 0) ∷ entry.Shown (row 0 1 1) ∷ entry.Refused (refuse 12 2 0) ∷ []
+unfolding row single load rowNumbers rowBy numbers laid areaOf rowIn firstOf sizeRefusal numberRefusal refusalOf rowNamed entryOf
 rows-asked = refl
+
+-- Where the rows begin in an area, and how many numbers it has: the header for C has the second.
+sizes : (rows-begin ≡ 34) × (room ≡ 1570)
+sizes = (refl, refl)

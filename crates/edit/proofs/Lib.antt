@@ -1,8 +1,5 @@
-pub mod Refusals
+pub mod RowsAfter
 pub mod Editing
 pub mod Promises
 mod Cases
-mod Places
-mod Refusing
-mod Stepping
-mod Storing
+mod Outcomes

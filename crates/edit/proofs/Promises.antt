@@ -11,7 +11,7 @@
 --     refused-opening-leaves, refused-edit-leaves      the same of an outcome whose verdict is a refusal
 --     only-on-the-ways               an edit changes no count off the ways of its rows
 --     adding-raises, removing-lowers, changing-moves      and by how much it changes those on them
---     busiest-of-edited              the busiest link of an edited table is the lowest of those that the most rows cross
+--     busiest-of-edited              the busiest link of an edited table: the lowest of those that the most rows cross
 -- Assumes nothing.
 use mathlib.Core.Path.{_≡_, refl, _∙_, ap, sym}
 use Prim.Native.Nat.{ℕ, _+_, _-_, _≤_, _<_, min}
@@ -30,36 +30,52 @@ use Rattle.table.specs.declared.Verdict.the-variants.{Good, Refused}
 use Rattle.table.specs.Table.{most-rows, distances, WellFormed}
 use Rattle.table.specs.Steps.{none}
 use Rattle.table.proofs.Judging.{never-good}
-use Rattle.area.specs.Area.{most-links, crosses, load, areaOf, nodesIn, countIn, loadIn, rowIn, rowsIn, loadsIn, busiestIn}
+use Rattle.area.specs.Area.{most-links, crosses, load, areaOf, nodesIn, countIn, loadIn, rowIn, rowsIn}
+use Rattle.area.specs.Area.{loadsIn, busiestIn}
 use Rattle.area.proofs.Areas.{load-in-laid, nodes-in-area, count-in-area, load-in-area, row-in-area, rows-in-area}
 use Rattle.area.proofs.Loads.{load-more, load-few}
 use Rattle.area.proofs.GoodRows.{AllGood}
 use Rattle.area.proofs.Ways.{loads-sum-to-sends}
 use Rattle.area.proofs.Promises.{Busiest, busiest-built}
-use Rattle.edit.specs.Edit.{Edit, Add, Change, Remove, sizeRefusal, editRefusal, aboutRow, verdictBy, rowsAfter, stepFor, loadAfter, behindAfter, edited, areaAfter, Opened, Edited, afterEdits, rowsBy}
-use Rattle.edit.proofs.Refusals.{size-of, size-fits, Fits, edit-fits, few-after, good-after, well-formed}
+use Rattle.judge.specs.Judge.{Edit, Add, Change, Remove, sizeRefusal, verdictBy}
+use Rattle.judge.proofs.Refusals.{size-of, size-fits, Fits, edit-fits, well-formed}
+use Rattle.store.specs.Store.{rowsAfter, stepFor, loadAfter, behindAfter, edited}
+use Rattle.edit.specs.Edit.{editRefusal, aboutRow, areaAfter, Opened, Edited, afterEdits, rowsBy}
+use Rattle.edit.proofs.RowsAfter.{few-after, good-after}
 use Rattle.edit.proofs.Editing.{load-fewer, load-changed, edited-area, rowsNext, area-after, keeps-next, keeps}
 
 -- ---- one outcome
 -- Two outcomes of opening a table that fit its promise are equal: the verdict, and every number of the area.
-pub one-opening : {n : ℕ} {s s₁ s₂ : List ℕ} {v₁ v₂ : Verdict} → Opened n s v₁ s₁ → Opened n s v₂ s₂ → (v₁ ≡ v₂) × (s₁ ≡ s₂)
+pub one-opening : {n : ℕ} {s s₁ s₂ : List ℕ} {v₁ v₂ : Verdict}
+    → Opened n s v₁ s₁
+    → Opened n s v₂ s₂
+    → (v₁ ≡ v₂) × (s₁ ≡ s₂)
 one-opening a b = (a .answers ∙ sym (b .answers), a .fills ∙ sym (b .fills))
 
 -- Two outcomes of an edit that fit its promise are equal: the verdict, and every number of the area.
-pub one-edit : {s s₁ s₂ : List ℕ} {e : Edit} {v₁ v₂ : Verdict} → Edited s e v₁ s₁ → Edited s e v₂ s₂ → (v₁ ≡ v₂) × (s₁ ≡ s₂)
+pub one-edit : {s s₁ s₂ : List ℕ} {e : Edit} {v₁ v₂ : Verdict}
+    → Edited s e v₁ s₁
+    → Edited s e v₂ s₂
+    → (v₁ ≡ v₂) × (s₁ ≡ s₂)
 one-edit a b = (a .answers ∙ sym (b .answers), a .fills ∙ sym (b .fills))
 
 -- ---- any list of edits
 -- An edit leaves at most 512 rows.
-few-next : (n : ℕ) (rows : List Row) → length rows ≤ most-rows → (e : Edit) → length (rowsNext n rows e) ≤ most-rows
+few-next : (n : ℕ) (rows : List Row)
+    → length rows ≤ most-rows
+    → (e : Edit)
+    → length (rowsNext n rows e) ≤ most-rows
 few-next n rows few e = keeps-next n (λ rs. length rs ≤ most-rows) (λ rs f h fits. few-after n rs f h fits) rows e few
 
 -- Edits of the area of a table make the area of the rows edited.
-pub edits-make-rows-from : (n : ℕ) (es : List Edit) (rows : List Row) → length rows ≤ most-rows → afterEdits (areaOf n rows) es ≡ areaOf n (rowsBy n rows es)
+pub edits-make-rows-from : (n : ℕ) (es : List Edit) (rows : List Row)
+    → length rows ≤ most-rows
+    → afterEdits (areaOf n rows) es ≡ areaOf n (rowsBy n rows es)
 unfolding afterEdits rowsBy
 edits-make-rows-from n [] rows few = refl
 edits-make-rows-from n (e ∷ es) rows few =
-    ap (λ (s : List ℕ). afterEdits s es) (area-after n rows few e) ∙ edits-make-rows-from n es (rowsNext n rows e) (few-next n rows few e)
+    ap (λ (s : List ℕ). afterEdits s es) (area-after n rows few e)
+    ∙ edits-make-rows-from n es (rowsNext n rows e) (few-next n rows few e)
 
 module _ (n : ℕ) (es : List Edit) where
   -- After any edits of a table that was opened, the area is that of the rows edited, every number of it.
@@ -88,7 +104,9 @@ module _ (n : ℕ) (es : List Edit) where
   -- It never has more than 512 rows, and none of them is bad.
   kept : (length rows ≤ most-rows) × AllGood n rows
   unfolding AllGood
-  kept = keeps n (λ rs. (length rs ≤ most-rows) × AllGood n rs) (λ rs e h fits. (few-after n rs e (h .0) fits, good-after n rs e fits (h .1))) es [] (omega arith, tt)
+  kept =
+      keeps n (λ rs. (length rs ≤ most-rows) × AllGood n rs)
+      (λ rs e h fits. (few-after n rs e (h .0) fits, good-after n rs e fits (h .1))) es [] (omega arith, tt)
 
   -- No count is above 512.
   pub no-count-overflows : (p : ℕ) → p < most-links → loadIn s p ≤ most-rows
@@ -100,7 +118,8 @@ module _ (n : ℕ) (es : List Edit) where
 
   -- Its sizes are never refused.
   pub sizes-stay-good : sizeRefusal n 0 ≡ 0 → sizeRefusal (nodesIn s) (countIn s) ≡ 0
-  sizes-stay-good opened = rw (edits-make-rows, nodes-in-area n rows, count-in-area n rows) (size-of n (length rows) (kept .0) ∙ opened)
+  sizes-stay-good opened =
+      rw (edits-make-rows, nodes-in-area n rows, count-in-area n rows) (size-of n (length rows) (kept .0) ∙ opened)
 
   -- The loads of the ring's links are those of the rows edited.
   its-loads : n ≤ most-links → loadsIn s ≡ build n (load n rows)
@@ -108,23 +127,34 @@ module _ (n : ℕ) (es : List Edit) where
   its-loads h =
       let links : min n most-links ≡ n = omega arith in
       ap (λ (k : ℕ). build (min k most-links) (loadIn s)) (ap nodesIn edits-make-rows ∙ nodes-in-area n rows)
-      ∙ ap (λ (k : ℕ). build k (loadIn s)) links ∙ build-ext n (loadIn s) (load n rows) (λ p l. its-load p (omega arith))
+      ∙ ap (λ (k : ℕ). build k (loadIn s)) links
+      ∙ build-ext n (loadIn s) (load n rows) (λ p l. its-load p (omega arith))
 
   -- All its counts together are the sends that the planner's summary counts.
   pub loads-are-sends : sizeRefusal n 0 ≡ 0 → total (loadsIn s) ≡ total (distances n (rowsIn s))
   loads-are-sends opened =
-      ap total (its-loads (size-fits n 0 opened .most)) ∙ loads-sum-to-sends n rows (edited-is-well-formed opened) ∙ ap (λ (rs : List Row). total (distances n rs)) (sym rows-are-those-entered)
+      ap total (its-loads (size-fits n 0 opened .most))
+      ∙ loads-sum-to-sends n rows (edited-is-well-formed opened)
+      ∙ ap (λ (rs : List Row). total (distances n rs)) (sym rows-are-those-entered)
 
   -- How much one more edit changes the counts: a row counts 1 on its way and 0 elsewhere.
   -- An edit that isn't refused fits the rows edited.
   fits-it : (e : Edit) → editRefusal s e ≡ 0 → Fits n (length rows) e
-  fits-it e h = edit-fits n (length rows) e (rw (nodes-in-area n rows, count-in-area n rows) at (ap (λ (a : List ℕ). editRefusal a e) (sym edits-make-rows) ∙ h)) .1
+  fits-it e h =
+      let there : editRefusal (areaOf n rows) e ≡ 0 = ap (λ (a : List ℕ). editRefusal a e) (sym edits-make-rows) ∙ h in
+      edit-fits n (length rows) e (rw (nodes-in-area n rows, count-in-area n rows) at there) .1
 
   -- After one more edit a load is that of the rows then.
-  load-then : (p : ℕ) → p < most-links → (e : Edit) → editRefusal s e ≡ 0 → loadIn (areaAfter s e) p ≡ load n (rowsAfter rows e) p
+  load-then : (p : ℕ)
+      → p < most-links
+      → (e : Edit)
+      → editRefusal s e ≡ 0
+      → loadIn (areaAfter s e) p ≡ load n (rowsAfter rows e) p
   unfolding areaAfter
   load-then p l e h =
-      let made : edited s e ≡ areaOf n (rowsAfter rows e) = ap (λ (a : List ℕ). edited a e) edits-make-rows ∙ edited-area n rows (kept .0) e (fits-it e h) in
+      let made : edited s e ≡ areaOf n (rowsAfter rows e) =
+      ap (λ (a : List ℕ). edited a e) edits-make-rows ∙ edited-area n rows (kept .0) e (fits-it e h)
+      in
       rw (h, made) (load-in-area n (rowsAfter rows e) p l)
 
   -- Row k is that of the rows edited.
@@ -133,24 +163,32 @@ module _ (n : ℕ) (es : List Edit) where
 
   module _ (p : ℕ) (l : p < most-links) where
     -- Adding a row raises each count on its way by exactly one, and no other.
-    pub adding-raises : (r : Row) → editRefusal s (Add r) ≡ 0 → loadIn (areaAfter s (Add r)) p ≡ cond (crosses n r p) 1 0 + loadIn s p
+    pub adding-raises : (r : Row)
+        → editRefusal s (Add r) ≡ 0
+        → loadIn (areaAfter s (Add r)) p ≡ cond (crosses n r p) 1 0 + loadIn s p
     unfolding rowsAfter
     adding-raises r h = omega (arith, load-then p l (Add r) h, load-more n p rows r, its-load p l)
 
     -- Removing a row lowers each count on its way by exactly one, and no other.
-    pub removing-lowers : (k : ℕ) → editRefusal s (Remove k) ≡ 0 → loadIn s p ≡ cond (crosses n (rowIn s (k - 1)) p) 1 0 + loadIn (areaAfter s (Remove k)) p
+    pub removing-lowers : (k : ℕ)
+        → editRefusal s (Remove k) ≡ 0
+        → loadIn s p ≡ cond (crosses n (rowIn s (k - 1)) p) 1 0 + loadIn (areaAfter s (Remove k)) p
     unfolding Fits
     removing-lowers k h =
         let there = fits-it (Remove k) h in
-        rw (its-row k (there .0) (there .1)) (omega (arith, load-then p l (Remove k) h, load-fewer n p rows k (there .0) (there .1), its-load p l))
+        let fewer = load-fewer n p rows k (there .0) (there .1) in
+        rw (its-row k (there .0) (there .1)) (omega (arith, load-then p l (Remove k) h, fewer, its-load p l))
 
     -- Changing a row counts it out as it was, and in as it is now.
-    pub changing-moves : (k : ℕ) (r : Row) → editRefusal s (Change k r) ≡ 0
-        → cond (crosses n (rowIn s (k - 1)) p) 1 0 + loadIn (areaAfter s (Change k r)) p ≡ cond (crosses n r p) 1 0 + loadIn s p
+    pub changing-moves : (k : ℕ) (r : Row)
+        → editRefusal s (Change k r) ≡ 0
+        → cond (crosses n (rowIn s (k - 1)) p) 1 0 + loadIn (areaAfter s (Change k r)) p
+        ≡ cond (crosses n r p) 1 0 + loadIn s p
     unfolding Fits
     changing-moves k r h =
         let there = fits-it (Change k r) h .0 in
-        rw (its-row k (there .0) (there .1)) (omega (arith, load-then p l (Change k r) h, load-changed n p rows k (there .0) (there .1) r, its-load p l))
+        let moved = load-changed n p rows k (there .0) (there .1) r in
+        rw (its-row k (there .0) (there .1)) (omega (arith, load-then p l (Change k r) h, moved, its-load p l))
 
 -- ---- one edit
 -- A refused edit leaves the area as it was.
@@ -165,11 +203,13 @@ has-number number row x e z = let praise : verdictBy number row ≡ Good = rw z 
 
 -- An opening that is refused leaves the area as it was.
 pub refused-opening-leaves : {n : ℕ} {s s′ : List ℕ} {x : Refusal} → Opened n s (Refused x) s′ → s′ ≡ s
-refused-opening-leaves {n} {s} {s′} {x} o = o .fills ∙ rw (ne-eqb (sizeRefusal n 0) 0 (has-number (sizeRefusal n 0) 0 x (o .answers)))
+refused-opening-leaves {n} {s} {s′} {x} o =
+    o .fills ∙ rw (ne-eqb (sizeRefusal n 0) 0 (has-number (sizeRefusal n 0) 0 x (o .answers)))
 
 -- An edit that is refused leaves the area as it was.
 pub refused-edit-leaves : {s s′ : List ℕ} {e : Edit} {x : Refusal} → Edited s e (Refused x) s′ → s′ ≡ s
-refused-edit-leaves {s} {s′} {e} {x} o = o .fills ∙ refused-changes-nothing s e (has-number (editRefusal s e) (aboutRow s e) x (o .answers))
+refused-edit-leaves {s} {s′} {e} {x} o =
+    o .fills ∙ refused-changes-nothing s e (has-number (editRefusal s e) (aboutRow s e) x (o .answers))
 
 -- Link p lies on the way of the row put in or on that of the row taken out.
 unfoldable pub onWay : List ℕ → Edit → ℕ → Bool
@@ -193,21 +233,30 @@ unfolding onWay loadAfter
 load-off s (Add r) p off = off-way true (nodesIn s) r p (loadIn s p) off
 load-off s (Change k r) p off =
     let neither = both-false (crosses (nodesIn s) (rowIn s (k - 1)) p) (crosses (nodesIn s) r p) off in
-    off-way true (nodesIn s) r p _ (neither .1) ∙ off-way false (nodesIn s) (rowIn s (k - 1)) p (loadIn s p) (neither .0)
+    off-way true (nodesIn s) r p _ (neither .1)
+    ∙ off-way false (nodesIn s) (rowIn s (k - 1)) p (loadIn s p) (neither .0)
 load-off s (Remove k) p off = off-way false (nodesIn s) (rowIn s (k - 1)) p (loadIn s p) off
 
--- An edit of any area changes no count of a link that lies neither on the way of the row put in nor on that of the row taken out.
-pub only-on-the-ways : (s : List ℕ) (e : Edit) (p : ℕ) → p < most-links → onWay s e p ≡ false → loadIn (areaAfter s e) p ≡ loadIn s p
+-- An edit of any area changes no count of a link that lies neither on the way of the row put in nor on that of the row
+-- taken out.
+pub only-on-the-ways : (s : List ℕ) (e : Edit) (p : ℕ)
+    → p < most-links
+    → onWay s e p ≡ false
+    → loadIn (areaAfter s e) p ≡ loadIn s p
 unfolding areaAfter edited
 only-on-the-ways s e p l off = go (eqb (editRefusal s e) 0)
   where
     go : (b : Bool) → loadIn (cond b (edited s e) s) p ≡ loadIn s p
-    go true = load-in-laid (nodesIn s) (loadAfter s e) (rowsAfter (rowsIn s) e) (behindAfter s e) p l ∙ load-off s e p off
+    go true =
+        load-in-laid (nodesIn s) (loadAfter s e) (rowsAfter (rowsIn s) e) (behindAfter s e) p l ∙ load-off s e p off
     go false = refl
 
 -- ---- the busiest link
 -- The busiest link of an edited table is the lowest of those that the most rows cross, counted afresh.
-pub busiest-of-edited : (n : ℕ) (es : List Edit) → sizeRefusal n 0 ≡ 0 → Busiest n (load n (rowsIn (afterEdits (areaOf n []) es))) (busiestIn (loadsIn (afterEdits (areaOf n []) es)))
+pub busiest-of-edited : (n : ℕ) (es : List Edit)
+    → sizeRefusal n 0 ≡ 0
+    → Busiest n (load n (rowsIn (afterEdits (areaOf n []) es))) (busiestIn (loadsIn (afterEdits (areaOf n []) es)))
 busiest-of-edited n es opened =
     let sized = size-fits n 0 opened in
-    rw (its-loads n es (sized .most), rows-are-those-entered n es) (busiest-built n (load n (rows n es)) (omega (arith, sized .least)))
+    rw (its-loads n es (sized .most), rows-are-those-entered n es)
+    (busiest-built n (load n (rows n es)) (omega (arith, sized .least)))

@@ -1,7 +1,15 @@
+// Plain lists of numbers: cleared, summed, the largest entry and the first place of one; and the lower of two numbers.
 ghost use mathlib.Core.Path.{_≡_};
-ghost use Prim.Native.Nat.{ℕ, _≤_, _<_};
+ghost use Prim.Native.Nat.{ℕ, _≤_, min};
 ghost use lib.ListN.{length, replicate};
 ghost use Rattle.lists.specs.Lists.{total, largest, firstPlace};
+
+// The lower of two numbers.
+pub fn lower(a: usize, b: usize) -> usize
+    ensures { λ r. ⌜ r ≡ min a b ⌝ }
+{
+    if a < b { a } else { b }
+}
 
 // Sets every entry to 0.
 pub fn clear(part: &mut [u16])

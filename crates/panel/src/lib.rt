@@ -3,11 +3,13 @@ ghost use mathlib.Core.Path.{_≡_};
 ghost use lib.ListN.{getD};
 ghost use Rattle.table.specs.Steps.{listed};
 ghost use Rattle.area.specs.Area.{countIn, nodesIn, rowsIn, loadsIn, busiestIn};
-ghost use Rattle.edit.specs.Edit.{Add, Change, Remove, entryOf};
+ghost use Rattle.edit.specs.Edit.{entryOf};
+ghost use Rattle.judge.specs.Judge.{Add, Change, Remove};
 ghost use Rattle.flat.specs.Flat.{flatVerdict, flatEntry, flatLink};
 ghost use Rattle.panel.specs.Panel.{PanelPlanned, PanelRead, PanelWritten, PanelOpened, PanelEdited, PanelSentence, PanelLabel};
 ghost use Rattle.panel.specs.Steps.{FlatRead};
 ghost use Rattle.catalogue.specs.Catalogue.{verdictOn};
+use area::Area;
 use flat::EditAnswer;
 use flat::LinkAnswer;
 use flat::PlanAnswer;
@@ -111,7 +113,7 @@ pub extern "C" fn garboardle_write(nodes: u16, rows: &[Row], area: &mut [u8]) ->
 
 // Opens an empty table for so many nodes in the lent area.
 #[no_mangle]
-pub extern "C" fn garboardle_open(table: &mut [u16; 1570], nodes: u16) -> EditAnswer
+pub extern "C" fn garboardle_open(table: &mut Area, nodes: u16) -> EditAnswer
     ensures { λ r. ⌜ PanelOpened nodes (now (table .entry)) r (now (table .exit)) ⌝ }
 {
     flat_verdict(edit::open(table, nodes))
@@ -119,7 +121,7 @@ pub extern "C" fn garboardle_open(table: &mut [u16; 1570], nodes: u16) -> EditAn
 
 // Adds a row at the end of an open table.
 #[no_mangle]
-pub extern "C" fn garboardle_add(table: &mut [u16; 1570], row: Row) -> EditAnswer
+pub extern "C" fn garboardle_add(table: &mut Area, row: Row) -> EditAnswer
     ensures { λ r. ⌜ PanelEdited (now (table .entry)) (Add row) r (now (table .exit)) ⌝ }
 {
     flat_verdict(edit::add(table, row))
@@ -127,7 +129,7 @@ pub extern "C" fn garboardle_add(table: &mut [u16; 1570], row: Row) -> EditAnswe
 
 // Changes row `number` of an open table.
 #[no_mangle]
-pub extern "C" fn garboardle_change(table: &mut [u16; 1570], number: u16, row: Row) -> EditAnswer
+pub extern "C" fn garboardle_change(table: &mut Area, number: u16, row: Row) -> EditAnswer
     ensures { λ r. ⌜ PanelEdited (now (table .entry)) (Change number row) r (now (table .exit)) ⌝ }
 {
     flat_verdict(edit::change(table, number, row))
@@ -135,7 +137,7 @@ pub extern "C" fn garboardle_change(table: &mut [u16; 1570], number: u16, row: R
 
 // Removes row `number` of an open table.
 #[no_mangle]
-pub extern "C" fn garboardle_remove(table: &mut [u16; 1570], number: u16) -> EditAnswer
+pub extern "C" fn garboardle_remove(table: &mut Area, number: u16) -> EditAnswer
     ensures { λ r. ⌜ PanelEdited (now (table .entry)) (Remove number) r (now (table .exit)) ⌝ }
 {
     flat_verdict(edit::remove(table, number))
@@ -143,7 +145,7 @@ pub extern "C" fn garboardle_remove(table: &mut [u16; 1570], number: u16) -> Edi
 
 // The number of rows of an open table.
 #[no_mangle]
-pub extern "C" fn garboardle_row_count(table: &[u16; 1570]) -> u16
+pub extern "C" fn garboardle_row_count(table: &Area) -> u16
     ensures { λ r. ⌜ r ≡ countIn (now (table .entry)) ⌝ }
 {
     area::row_count(table)
@@ -151,7 +153,7 @@ pub extern "C" fn garboardle_row_count(table: &[u16; 1570]) -> u16
 
 // Row `number` of an open table.
 #[no_mangle]
-pub extern "C" fn garboardle_row_of(table: &[u16; 1570], number: u16) -> RowAnswer
+pub extern "C" fn garboardle_row_of(table: &Area, number: u16) -> RowAnswer
     ensures { λ r. ⌜ r ≡ flatEntry (entryOf (now (table .entry)) number) ⌝ }
 {
     flat_entry(edit::row_of(table, number))
@@ -159,7 +161,7 @@ pub extern "C" fn garboardle_row_of(table: &[u16; 1570], number: u16) -> RowAnsw
 
 // How many rows of an open table cross a link.
 #[no_mangle]
-pub extern "C" fn garboardle_link_load(table: &[u16; 1570], link: u16) -> u16
+pub extern "C" fn garboardle_link_load(table: &Area, link: u16) -> u16
     ensures { λ r. ⌜ r ≡ getD (loadsIn (now (table .entry))) link 0 ⌝ }
 {
     area::link_load(table, Node(link))
@@ -167,7 +169,7 @@ pub extern "C" fn garboardle_link_load(table: &[u16; 1570], link: u16) -> u16
 
 // The busiest link of an open table.
 #[no_mangle]
-pub extern "C" fn garboardle_busiest(table: &[u16; 1570]) -> LinkAnswer
+pub extern "C" fn garboardle_busiest(table: &Area) -> LinkAnswer
     ensures { λ r. ⌜ r ≡ flatLink (busiestIn (loadsIn (now (table .entry)))) ⌝ }
 {
     flat_link(area::busiest(table))
@@ -176,7 +178,7 @@ pub extern "C" fn garboardle_busiest(table: &[u16; 1570]) -> LinkAnswer
 // Plans an open table in the lent areas, as `garboardle_plan` plans the same rows.
 #[no_mangle]
 pub extern "C" fn garboardle_plan_table(
-    table: &[u16; 1570],
+    table: &Area,
     plan: &mut [u16],
     arrivals: &mut [u16],
 ) -> PlanAnswer

@@ -2,6 +2,8 @@ ghost use mathlib.Core.Path.{_≡_};
 ghost use Prim.Native.Nat.{ℕ, _≤_, _<_};
 ghost use lib.ListN.{length, take, replicate};
 ghost use Rattle.planner.specs.Planner.{Planned};
+use area::Area;
+use area::ROOM;
 use planner::Answer;
 use planner::Summary;
 use planner::plan;
@@ -251,12 +253,12 @@ fn run_edge_cases() {
 }
 
 // An area for editing that nobody has opened yet.
-fn table_area() -> [u16; 1570] {
-    [0; 1570]
+fn table_area() -> Area {
+    [0; ROOM]
 }
 
 // Writes the loads of the first four links of a table that is edited.
-fn print_loads(table: &[u16; 1570]) {
+fn print_loads(table: &Area) {
     let mut p = 0;
     while p < 4 {
         print_line(b"load", wide(area::link_load(table, Node(p))));
@@ -265,7 +267,7 @@ fn print_loads(table: &[u16; 1570]) {
 }
 
 // Writes what an edit came to, and the rows, loads and busiest link that the table then has.
-fn print_edit(name: &[u8], verdict: Verdict, table: &[u16; 1570]) {
+fn print_edit(name: &[u8], verdict: Verdict, table: &Area) {
     io::write_all(OUT, b"edit=");
     io::write_all(OUT, name);
     io::write_all(OUT, b"\n");
@@ -281,7 +283,7 @@ fn print_edit(name: &[u8], verdict: Verdict, table: &[u16; 1570]) {
 }
 
 // Opens a table in the lent area and adds rows, one past node 0; a bad one is refused under its coming number.
-fn run_adding(table: &mut [u16; 1570]) {
+fn run_adding(table: &mut Area) {
     print_edit(b"open", edit::open(table, 33), table);
     print_edit(b"open", edit::open(table, 4), table);
     print_edit(b"add", edit::add(table, row(0, 2, 4)), table);
@@ -291,7 +293,7 @@ fn run_adding(table: &mut [u16; 1570]) {
 }
 
 // Changes and removes rows of that table; numbers that aren't there are refused.
-fn run_changing(table: &mut [u16; 1570]) {
+fn run_changing(table: &mut Area) {
     print_edit(b"change", edit::change(table, 1, row(2, 3, 1)), table);
     print_edit(b"change", edit::change(table, 9, row(2, 3, 1)), table);
     print_edit(b"remove", edit::remove(table, 2), table);
@@ -299,7 +301,7 @@ fn run_changing(table: &mut [u16; 1570]) {
 }
 
 // Plans the table that was edited.
-fn run_edited(table: &[u16; 1570]) {
+fn run_edited(table: &Area) {
     let mut plan = plan_area();
     let mut arrivals = arrivals_area();
     let rows = area::row_count(table) as usize;

@@ -7,11 +7,11 @@ use Rattle.area.specs.Area.{busiestIn}
 use Rattle.area.proofs.busiest.Statement.{statement}
 use Rattle.area.proofs.busiest.Tie as tie
 
-element-copy-out-lower : tie.Need-element-copy-out-lower
-element-copy-out-lower c = search needs
+element-copy-out-link-count : tie.Need-element-copy-out-link-count
+element-copy-out-link-count c = search needs
 
-lower-requires : tie.Need-lower-requires
-lower-requires c κs = search needs
+link-count-requires : tie.Need-link-count-requires
+link-count-requires c κs = search needs
 
 add-end : tie.Need-add-end
 add-end c = search needs
@@ -29,14 +29,17 @@ busiest-in-requires : tie.Need-busiest-in-requires
 busiest-in-requires c κs = search needs
 
 returns : tie.Need-returns
-returns c = c .busiest-in .ensures ∙ ap busiestIn (loads-part (c .before .before .before .before .before .args .table .now) _ (c .before .before .before .lower .ensures) (search needs))
+returns c =
+    let s = c .before .before .before .before .before .args .table .now in
+    let links = c .before .before .before .link-count .ensures in
+    c .busiest-in .ensures ∙ ap busiestIn (loads-part s _ links (search needs))
 
 pub busiest-spec : {M : Type 1} → statement M
 busiest-spec =
     tie.close
     (tie.spec
-    element-copy-out-lower
-    lower-requires
+    element-copy-out-link-count
+    link-count-requires
     add-end
     sub-busiest-in
     part-busiest-in-start

@@ -14,7 +14,9 @@ first-place-requires : tie.Need-first-place-requires
 first-place-requires c κs = search needs
 
 cast-t4 : tie.Need-cast-t4
-cast-t4 c = rw (c .first-place .ensures) (omega (arith, place-fits (c .before .greatest .result) (c .before .before .before .args .loads .now)))
+cast-t4 c =
+    let loads = c .before .before .before .args .loads .now in
+    rw (c .first-place .ensures) (omega (arith, place-fits (c .before .greatest .result) loads))
 
 returns : tie.Need-returns
 unfolding busiestIn

@@ -1,23 +1,26 @@
--- `area::columns_of` meets its contract: each column is every third number of the area.
+-- `area::columns_of` meets its contract: each column is one number of every row.
 -- Assumes nothing.
 use borrow.Author.Needs.{needs}
 use Rattle.area.proofs.Reading.{listed-columns}
 use Rattle.area.proofs.columns_of.Statement.{statement}
 use Rattle.area.proofs.columns_of.Tie as tie
 
-column-from-requires : tie.Need-column-from-requires
-column-from-requires c κs = search needs
+column-of-requires : tie.Need-column-of-requires
+column-of-requires c κs = search needs
 
-column-from-requires-2 : tie.Need-column-from-requires-2
-column-from-requires-2 c κs = search needs
+column-of-requires-2 : tie.Need-column-of-requires-2
+column-of-requires-2 c κs = search needs
 
-column-from-requires-3 : tie.Need-column-from-requires-3
-column-from-requires-3 c κs = search needs
+column-of-requires-3 : tie.Need-column-of-requires-3
+column-of-requires-3 c κs = search needs
 
 returns : tie.Need-returns
 returns c =
-    listed-columns (c .before .before .before .before .before .before .args .table .now) _ _ _ (search needs) (c .before .before .before .before .column-from .ensures) (c .before .before .column-from2 .ensures) (c .column-from3 .ensures)
+    let s = c .before .before .before .before .before .before .args .table .now in
+    let first = c .before .before .before .before .column-of .ensures in
+    let second = c .before .before .column-of2 .ensures in
+    listed-columns s _ _ _ (search needs) first second (c .column-of3 .ensures)
 
 pub columns-of-spec : {M : Type 1} → statement M
 columns-of-spec =
-    tie.close (tie.spec column-from-requires column-from-requires-2 column-from-requires-3 returns)
+    tie.close (tie.spec column-of-requires column-of-requires-2 column-of-requires-3 returns)

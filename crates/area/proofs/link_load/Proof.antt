@@ -5,11 +5,11 @@ use Rattle.area.proofs.Reading.{load-there, load-none}
 use Rattle.area.proofs.link_load.Statement.{statement}
 use Rattle.area.proofs.link_load.Tie as tie
 
-element-copy-out-lower : tie.Need-element-copy-out-lower
-element-copy-out-lower c = search needs
+element-copy-out-link-count : tie.Need-element-copy-out-link-count
+element-copy-out-link-count c = search needs
 
-lower-requires : tie.Need-lower-requires
-lower-requires c κs = search needs
+link-count-requires : tie.Need-link-count-requires
+link-count-requires c κs = search needs
 
 cast-p : tie.Need-cast-p
 cast-p c = search needs
@@ -24,17 +24,21 @@ element-copy-out-result : tie.Need-element-copy-out-result
 element-copy-out-result c = search needs
 
 returns : tie.Need-returns
-returns c = load-there (c .before .before .before .before .before .args .table .now) _ (c .before .before .before .lower .ensures) (c .before .before .before .before .before .args .link .0) (c .before .if1 .taken)
+returns c =
+    let a = c .before .before .before .before .before .args in
+    load-there (a .table .now) _ (c .before .before .before .link-count .ensures) (a .link .0) (c .before .if1 .taken)
 
 returns-2 : tie.Need-returns-2
-returns-2 c = load-none (c .before .before .before .before .args .table .now) _ (c .before .before .lower .ensures) (c .before .before .before .before .args .link .0) (c .if1 .left)
+returns-2 c =
+    let a = c .before .before .before .before .args in
+    load-none (a .table .now) _ (c .before .before .link-count .ensures) (a .link .0) (c .if1 .left)
 
 pub link-load-spec : {M : Type 1} → statement M
 link-load-spec =
     tie.close
     (tie.spec
-    element-copy-out-lower
-    lower-requires
+    element-copy-out-link-count
+    link-count-requires
     cast-p
     add-result
     mul-result

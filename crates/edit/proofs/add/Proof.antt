@@ -2,8 +2,9 @@
 -- Assumes nothing.
 use borrow.Author.Needs.{needs}
 use Rattle.area.specs.Area.{nodesIn, countIn}
-use Rattle.edit.proofs.Refusing.{refused-edit, good-edit, coming-number, add-roomy, why-none}
-use Rattle.edit.specs.Edit.{Add, aboutRow}
+use Rattle.edit.proofs.Outcomes.{refused-edit, good-edit, coming-number, add-roomy, why-none}
+use Rattle.judge.specs.Judge.{Add}
+use Rattle.edit.specs.Edit.{aboutRow}
 use Rattle.edit.proofs.add.Statement.{statement}
 use Rattle.edit.proofs.add.Tie as tie
 
@@ -26,13 +27,22 @@ returns : tie.Need-returns
 unfolding aboutRow
 returns c =
     let a = c .before .before .before .before .before .before .args in
-    refused-edit (a .table .now) (Add (a .row)) _ (c .before .before .before .add-refusal .ensures) _ _ (c .before .before .if1 .taken) (c .refusal .ensures) (rw (c .before .before .before .add-refusal .ensures, c .before .stepped .ensures) (coming-number (nodesIn (a .table .now)) (countIn (a .table .now)) (a .row)))
+    let why = c .before .before .before .add-refusal .ensures in
+    let coming = coming-number (nodesIn (a .table .now)) (countIn (a .table .now)) (a .row) in
+    refused-edit (a .table .now) (Add (a .row)) _ why _ _ (c .before .before .if1 .taken) (c .refusal .ensures)
+    (rw (why, c .before .stepped .ensures) coming)
 
 add-row-requires : tie.Need-add-row-requires
-add-row-requires c κs = add-roomy (c .before .before .before .before .before .args .table .now) (search needs) (c .before .before .before .before .before .args .row) (why-none (c .before .before .add-refusal .ensures) (c .before .if1 .left))
+add-row-requires c κs =
+    let a = c .before .before .before .before .before .args in
+    let good = why-none (c .before .before .add-refusal .ensures) (c .before .if1 .left) in
+    add-roomy (a .table .now) (search needs) (a .row) good
 
 returns-2 : tie.Need-returns-2
-returns-2 c = good-edit (c .before .before .before .before .before .before .args .table .now) (Add (c .before .before .before .before .before .before .args .row)) _ (c .before .before .before .add-refusal .ensures) _ (c .before .before .if1 .left) (c .add-row .ensures)
+returns-2 c =
+    let a = c .before .before .before .before .before .before .args in
+    let why = c .before .before .before .add-refusal .ensures in
+    good-edit (a .table .now) (Add (a .row)) _ why _ (c .before .before .if1 .left) (c .add-row .ensures)
 
 pub add-spec : {M : Type 1} → statement M
 add-spec =

@@ -2,8 +2,9 @@
 -- Assumes nothing.
 use mathlib.Core.Path.{refl}
 use borrow.Author.Needs.{needs}
-use Rattle.edit.proofs.Refusing.{refused-edit, good-edit, there-to-change, why-none}
-use Rattle.edit.specs.Edit.{Change, aboutRow}
+use Rattle.edit.proofs.Outcomes.{refused-edit, good-edit, there-to-change, why-none}
+use Rattle.judge.specs.Judge.{Change}
+use Rattle.edit.specs.Edit.{aboutRow}
 use Rattle.edit.proofs.change.Statement.{statement}
 use Rattle.edit.proofs.change.Tie as tie
 
@@ -23,13 +24,22 @@ returns : tie.Need-returns
 unfolding aboutRow
 returns c =
     let a = c .before .before .before .before .before .args in
-    refused-edit (a .table .now) (Change (a .number) (a .row)) _ (c .before .before .change-refusal .ensures) _ _ (c .before .if1 .taken) (c .refusal .ensures) refl
+    let why = c .before .before .change-refusal .ensures in
+    let refused = c .refusal .ensures in
+    refused-edit (a .table .now) (Change (a .number) (a .row)) _ why _ _ (c .before .if1 .taken) refused refl
 
 change-row-requires : tie.Need-change-row-requires
-change-row-requires c κs = there-to-change (c .before .before .before .before .before .args .table .now) (search needs) (c .before .before .before .before .before .args .number) (c .before .before .before .before .before .args .row) (why-none (c .before .before .change-refusal .ensures) (c .before .if1 .left))
+change-row-requires c κs =
+    let a = c .before .before .before .before .before .args in
+    let good = why-none (c .before .before .change-refusal .ensures) (c .before .if1 .left) in
+    there-to-change (a .table .now) (search needs) (a .number) (a .row) good
 
 returns-2 : tie.Need-returns-2
-returns-2 c = good-edit (c .before .before .before .before .before .before .args .table .now) (Change (c .before .before .before .before .before .before .args .number) (c .before .before .before .before .before .before .args .row)) _ (c .before .before .before .change-refusal .ensures) _ (c .before .before .if1 .left) (c .change-row .ensures)
+returns-2 c =
+    let a = c .before .before .before .before .before .before .args in
+    let why = c .before .before .before .change-refusal .ensures in
+    let none = c .before .before .if1 .left in
+    good-edit (a .table .now) (Change (a .number) (a .row)) _ why _ none (c .change-row .ensures)
 
 pub change-spec : {M : Type 1} → statement M
 change-spec =

@@ -1,7 +1,7 @@
 -- `edit::open` meets its contract: the area is cleared and the nodes are noted, or it is left.
 -- Assumes nothing.
 use borrow.Author.Needs.{needs}
-use Rattle.edit.proofs.Refusing.{refused-opening, good-opening}
+use Rattle.edit.proofs.Outcomes.{refused-opening, good-opening}
 use Rattle.edit.proofs.open.Statement.{statement}
 use Rattle.edit.proofs.open.Tie as tie
 
@@ -12,7 +12,10 @@ refusal-requires : tie.Need-refusal-requires
 refusal-requires c κs = search needs
 
 returns : tie.Need-returns
-returns c = refused-opening (c .before .before .before .args .nodes) (c .before .before .before .args .table .now) _ (c .before .before .size-refusal .ensures) _ (c .before .if1 .taken) (c .refusal .ensures)
+returns c =
+    let a = c .before .before .before .args in
+    let why = c .before .before .size-refusal .ensures in
+    refused-opening (a .nodes) (a .table .now) _ why _ (c .before .if1 .taken) (c .refusal .ensures)
 
 clear-requires : tie.Need-clear-requires
 clear-requires c κs = search needs
@@ -21,7 +24,10 @@ element-write-table : tie.Need-element-write-table
 element-write-table c = search needs
 
 returns-2 : tie.Need-returns-2
-returns-2 c = good-opening (c .before .before .before .before .args .nodes) (c .before .before .before .before .args .table .now) _ (c .before .before .before .size-refusal .ensures) _ (c .before .before .if1 .left) (search needs) (c .clear .ensures)
+returns-2 c =
+    let a = c .before .before .before .before .args in
+    let why = c .before .before .before .size-refusal .ensures in
+    good-opening (a .nodes) (a .table .now) _ why _ (c .before .before .if1 .left) (search needs) (c .clear .ensures)
 
 pub open-spec : {M : Type 1} → statement M
 open-spec =

@@ -2,8 +2,9 @@
 -- Assumes nothing.
 use mathlib.Core.Path.{refl}
 use borrow.Author.Needs.{needs}
-use Rattle.edit.proofs.Refusing.{refused-edit, good-edit, there-to-remove, why-none}
-use Rattle.edit.specs.Edit.{Remove, aboutRow}
+use Rattle.edit.proofs.Outcomes.{refused-edit, good-edit, there-to-remove, why-none}
+use Rattle.judge.specs.Judge.{Remove}
+use Rattle.edit.specs.Edit.{aboutRow}
 use Rattle.edit.proofs.remove.Statement.{statement}
 use Rattle.edit.proofs.remove.Tie as tie
 
@@ -23,13 +24,20 @@ returns : tie.Need-returns
 unfolding aboutRow
 returns c =
     let a = c .before .before .before .before .before .args in
-    refused-edit (a .table .now) (Remove (a .number)) _ (c .before .before .number-refusal .ensures) _ _ (c .before .if1 .taken) (c .refusal .ensures) refl
+    let why = c .before .before .number-refusal .ensures in
+    refused-edit (a .table .now) (Remove (a .number)) _ why _ _ (c .before .if1 .taken) (c .refusal .ensures) refl
 
 remove-row-requires : tie.Need-remove-row-requires
-remove-row-requires c κs = there-to-remove (c .before .before .before .before .before .args .table .now) (search needs) (c .before .before .before .before .before .args .number) (why-none (c .before .before .number-refusal .ensures) (c .before .if1 .left))
+remove-row-requires c κs =
+    let a = c .before .before .before .before .before .args in
+    let good = why-none (c .before .before .number-refusal .ensures) (c .before .if1 .left) in
+    there-to-remove (a .table .now) (search needs) (a .number) good
 
 returns-2 : tie.Need-returns-2
-returns-2 c = good-edit (c .before .before .before .before .before .before .args .table .now) (Remove (c .before .before .before .before .before .before .args .number)) _ (c .before .before .before .number-refusal .ensures) _ (c .before .before .if1 .left) (c .remove-row .ensures)
+returns-2 c =
+    let a = c .before .before .before .before .before .before .args in
+    let why = c .before .before .before .number-refusal .ensures in
+    good-edit (a .table .now) (Remove (a .number)) _ why _ (c .before .before .if1 .left) (c .remove-row .ensures)
 
 pub remove-spec : {M : Type 1} → statement M
 remove-spec =

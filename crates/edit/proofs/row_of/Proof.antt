@@ -2,7 +2,7 @@
 -- Assumes nothing.
 use native.Mathlib.Omega.{arith}
 use borrow.Author.Needs.{needs}
-use Rattle.edit.proofs.Refusing.{no-entry, an-entry, there-to-remove, why-none}
+use Rattle.edit.proofs.Outcomes.{no-entry, an-entry, there-to-remove, why-none}
 use Rattle.edit.proofs.row_of.Statement.{statement}
 use Rattle.edit.proofs.row_of.Tie as tie
 
@@ -19,18 +19,29 @@ refusal-requires : tie.Need-refusal-requires
 refusal-requires c κs = search needs
 
 returns : tie.Need-returns
-returns c = no-entry (c .before .before .before .before .before .args .table .now) (c .before .before .before .before .before .args .number) _ (c .before .before .number-refusal .ensures) _ (c .before .if1 .taken) (c .refusal .ensures)
+returns c =
+    let a = c .before .before .before .before .before .args in
+    let why = c .before .before .number-refusal .ensures in
+    no-entry (a .table .now) (a .number) _ why _ (c .before .if1 .taken) (c .refusal .ensures)
 
 sub-row-in : tie.Need-sub-row-in
-sub-row-in c = there-to-remove (c .before .before .before .before .before .args .table .now) (search needs) (c .before .before .before .before .before .args .number) (why-none (c .before .before .number-refusal .ensures) (c .before .if1 .left)) .first
+sub-row-in c =
+    let a = c .before .before .before .before .before .args in
+    let good = why-none (c .before .before .number-refusal .ensures) (c .before .if1 .left) in
+    there-to-remove (a .table .now) (search needs) (a .number) good .first
 
 row-in-requires : tie.Need-row-in-requires
 row-in-requires c κs =
-    let here = there-to-remove (c .before .before .before .before .before .args .table .now) (search needs) (c .before .before .before .before .before .args .number) (why-none (c .before .before .number-refusal .ensures) (c .before .if1 .left)) in
+    let a = c .before .before .before .before .before .args in
+    let good = why-none (c .before .before .number-refusal .ensures) (c .before .if1 .left) in
+    let here = there-to-remove (a .table .now) (search needs) (a .number) good in
     (here .whole, omega (arith, here .first, here .last, here .few))
 
 returns-2 : tie.Need-returns-2
-returns-2 c = an-entry (c .before .before .before .before .before .before .args .table .now) (c .before .before .before .before .before .before .args .number) _ (c .before .before .before .number-refusal .ensures) _ (c .before .before .if1 .left) (c .row-in .ensures)
+returns-2 c =
+    let a = c .before .before .before .before .before .before .args in
+    let why = c .before .before .before .number-refusal .ensures in
+    an-entry (a .table .now) (a .number) _ why _ (c .before .before .if1 .left) (c .row-in .ensures)
 
 pub row-of-spec : {M : Type 1} → statement M
 row-of-spec =

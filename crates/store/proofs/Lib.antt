@@ -1,0 +1,3 @@
+mod Places
+mod Stepping
+mod Storing
