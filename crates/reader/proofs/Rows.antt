@@ -1,95 +1,111 @@
--- A line that `line_at` found, and the three lines of a row.
---     Seen                         a line of a key stands at a place, with its value and the place behind it
---     not-seen, seen-line          what each answer of `line_at` says
---     broken-first, broken-second, broken-third, whole   the answers of `row_at`
+-- The lines of some keys, read one by one, as `row_at` reads those of a row.
+--     right-all, broken-on      all lines are right, or the first wrong one is known
+--     Reached                   j lines are read, and what is said of all is said of the rest
+--     none-reached, more-reached, stopped, row-whole   its laws
 -- Assumes nothing.
 use mathlib.Core.Path.{_≡_, refl, _∙_, ap, sym}
-use mathlib.Core.Bool.{Bool, true, false}
-use mathlib.Core.List.{List}
-use Prim.Native.Nat.{ℕ, _+_, _≤_}
+use mathlib.Core.Bool.{Bool, true, false, cond}
+use mathlib.Core.List.{List, [], _∷_, _++_, append-nil}
+use Prim.Native.Nat.{ℕ, zero, suc, _+_, _-_, _≤_, _<_}
+use native.Mathlib.Numerals.{add-one}
 use native.Mathlib.Omega.{arith}
-use lib.ListN.{length, drop, length-drop, length-append}
-use lib.Seq.{drop-drop}
-use Rattle.reader.specs.declared.Line.{Line}
-use Rattle.reader.specs.declared.Line.the-variants.{Good, Wrong}
+use borrow.Author.Tests.{lt-ltb, le-ltb}
+use lib.ListN.{length, getD, set, take, drop, length-set, length-drop, length-append, drop-of-length-le}
+use lib.Seq.{drop-cons, take-suc-set, take-all, append-snoc}
+use Rattle.text.specs.Text.{line-feed, row-keys, rowBy, rowText, lineGood, lineRest, valuesAt, behindLines, wrongLine, rowAt}
+use Rattle.text.proofs.RowLaws.{Right, row-stands}
+use Rattle.lines.proofs.Seen.{Seen}
 use Rattle.reader.specs.declared.RowSeen.the-variants.{Whole, Broken}
-use Rattle.text.specs.Text.{src-key, dst-key, due-key, line, rowText, lineValue, lineGood, lineRest, rowAt, pastRow}
-use Rattle.reader.specs.Steps.{lineSeen, rowSeen}
-use Rattle.text.proofs.Lines.{line-stands}
+use Rattle.reader.specs.Steps.{rightLines, rowSeen}
 
-pub record Seen (key text : List ℕ) (at v n : ℕ) : Type 0 where
-  pub good : lineGood key (drop at text) ≡ true
-  pub value : v ≡ lineValue key (drop at text)
-  pub past : n ≡ at + length (line key v)
-  pub inside : n ≤ length text
-  pub rest : drop n text ≡ lineRest key (drop at text)
+-- A row has at least one line, and at most sixteen.
+pub row-lines : (1 ≤ length row-keys) × (length row-keys ≤ 16)
+unfolding row-keys
+row-lines = (omega arith, omega arith)
 
-never-both : {v n : ℕ} → Good v n ≡ Wrong → ⊥
-never-both e = let z : _≡_ {A = ℕ} 0 1 = cc in omega arith
+pub right-all : (keys : List (List ℕ)) (text : List ℕ) → length keys ≤ rightLines keys text → Right keys text
+unfolding rightLines
+right-all [] text h = tt
+right-all (k ∷ ks) text h = go (lineGood k text) refl h (right-all ks (lineRest k text))
+  where
+    go : (b : Bool) → lineGood k text ≡ b → suc (length ks) ≤ cond b (suc (rightLines ks (lineRest k text))) 0 → (length ks ≤ rightLines ks (lineRest k text) → Right ks (lineRest k text)) → Right (k ∷ ks) text
+    go true e h rec = (e, rec (omega arith))
+    go false e h rec = absurd (omega arith)
 
-module _ (key text : List ℕ) (at : ℕ) (l : Line) (so : l ≡ lineSeen key text at) where
-  abbrev from : List ℕ
-  from = drop at text
+pub broken-on : (keys more : List (List ℕ)) (text : List ℕ) (l : ℕ) → rightLines keys text < length keys → wrongLine (keys ++ more) text l ≡ l + rightLines keys text
+unfolding rightLines wrongLine
+broken-on [] more text l h = absurd (omega arith)
+broken-on (k ∷ ks) more text l h = go (lineGood k text) h (broken-on ks more (lineRest k text) (suc l))
+  where
+    rest : ℕ
+    rest = rightLines ks (lineRest k text)
 
-  abbrev past : ℕ
-  past = at + length (line key (lineValue key from))
+    go : (b : Bool) → cond b (suc rest) 0 < suc (length ks) → (rest < length ks → wrongLine (ks ++ more) (lineRest k text) (suc l) ≡ suc l + rest) → cond b (wrongLine (ks ++ more) (lineRest k text) (suc l)) l ≡ l + cond b (suc rest) 0
+    go true h rec = rec (omega arith) ∙ omega arith
+    go false h rec = omega arith
 
-  good-is : lineGood key from ≡ true → l ≡ Good (lineValue key from) past
-  unfolding lineSeen
-  good-is e = so ∙ rw e
+-- j lines are read, up to a place, and their values are at the front of vs
+pub record Reached (keys : List (List ℕ)) (text : List ℕ) (at : ℕ) (vs : List ℕ) (next j : ℕ) : Type 0 where
+  pub few : j ≤ length keys
+  pub inside : next ≤ length text
+  pub long : length vs ≡ length keys
+  pub counted : rightLines keys (drop at text) ≡ j + rightLines (drop j keys) (drop next text)
+  pub past : behindLines keys (drop at text) ≡ behindLines (drop j keys) (drop next text)
+  pub said : valuesAt keys (drop at text) ≡ take j vs ++ valuesAt (drop j keys) (drop next text)
 
-  wrong-is : lineGood key from ≡ false → l ≡ Wrong
-  unfolding lineSeen
-  wrong-is e = so ∙ rw e
+pub none-reached : (keys : List (List ℕ)) (text : List ℕ) (at : ℕ) (vs : List ℕ) → at ≤ length text → length vs ≡ length keys → Reached keys text at vs at 0
+none-reached keys text at vs h e = record { few = omega arith; inside = h; long = e; counted = omega arith; past = refl; said = refl }
 
-  pub not-seen : l ≡ Wrong → lineGood key from ≡ false
-  not-seen w = go (lineGood key from) refl
-    where
-      go : (b : Bool) → lineGood key from ≡ b → lineGood key from ≡ false
-      go true e = absurd (never-both (sym (good-is e) ∙ w))
-      go false e = e
+module _ {keys : List (List ℕ)} {text : List ℕ} {at : ℕ} {vs : List ℕ} {next j : ℕ} (k : Reached keys text at vs next j) where
+  module _ (more : j < length keys) where
+    key-next : drop j keys ≡ getD keys j [] ∷ drop (j + 1) keys
+    key-next = rw add-one (drop-cons keys j [] more)
 
-  pub seen-line : (v n : ℕ) → at ≤ length text → l ≡ Good v n → Seen key text at v n
-  unfolding lineRest
-  seen-line v n h g = go (lineGood key from) refl
-    where
-      go : (b : Bool) → lineGood key from ≡ b → Seen key text at v n
-      go false e = absurd (never-both (sym g ∙ wrong-is e))
-      go true e =
-          let same : Good v n ≡ Good (lineValue key from) past = sym g ∙ good-is e in
-          let value-is : v ≡ lineValue key from = cc in
-          let past-is : n ≡ past = cc in
-          let stands : length from ≡ length (line key (lineValue key from)) + length (lineRest key from) = ap length (line-stands key from e .1) ∙ length-append (line key (lineValue key from)) (lineRest key from) in
-          record { good = e; value = value-is; past = past-is ∙ rw value-is; inside = omega (arith, length-drop at text); rest = rw past-is (sym (drop-drop (length (line key (lineValue key from))) at text)) }
+    pub stopped : lineGood (getD keys j []) (drop next text) ≡ false → rightLines keys (drop at text) ≡ j
+    unfolding rightLines
+    stopped e = k .counted ∙ rw (key-next, e) (omega arith)
 
-module _ (text : List ℕ) (at : ℕ) where
-  pub broken-first : lineGood src-key (drop at text) ≡ false → Broken 0 ≡ rowSeen text at
+    pub more-reached : (v end : ℕ) → Seen (getD keys j []) line-feed text next v end → Reached keys text at (set vs j v) end (j + 1)
+    unfolding rightLines behindLines valuesAt
+    more-reached v end s =
+        let front : take (j + 1) (set vs j v) ≡ take j vs ++ (v ∷ []) = rw add-one (take-suc-set vs j v (omega (arith, k .long))) in
+        record {
+          few = omega arith;
+          inside = s .inside;
+          long = length-set vs j v ∙ k .long;
+          counted = k .counted ∙ rw (key-next, s .good, ← s .rest) (omega arith);
+          past = k .past ∙ rw (key-next, s .rest);
+          said = k .said ∙ rw (key-next, ← s .rest, ← s .value, front) (sym (append-snoc (take j vs) v (valuesAt (drop (j + 1) keys) (drop end text))));
+        }
+
+  module _ (done : length keys ≤ j) where
+    no-keys : drop j keys ≡ []
+    no-keys = drop-of-length-le keys done
+
+    pub all-right : length keys ≤ rightLines keys (drop at text)
+    unfolding rightLines
+    all-right = rw (k .counted, no-keys) (omega arith)
+
+    pub all-past : behindLines keys (drop at text) ≡ drop next text
+    unfolding behindLines
+    all-past = k .past ∙ rw no-keys
+
+    pub all-said : valuesAt keys (drop at text) ≡ vs
+    unfolding valuesAt
+    all-said = k .said ∙ rw (no-keys, append-nil) (take-all j vs (omega (arith, k .long)))
+
+module _ {text : List ℕ} {at : ℕ} {vs : List ℕ} {next j : ℕ} (k : Reached row-keys text at vs next j) where
+  pub row-broken : j < length row-keys → lineGood (getD row-keys j []) (drop next text) ≡ false → Broken j ≡ rowSeen text at
   unfolding rowSeen
-  broken-first e = rw e
+  row-broken more e = rw (stopped k more e, lt-ltb j (length row-keys) more)
 
-  module _ (src second : ℕ) (one : Seen src-key text at src second) where
-    pub broken-second : lineGood dst-key (drop second text) ≡ false → Broken 1 ≡ rowSeen text at
-    unfolding rowSeen
-    broken-second e = rw (one .good, ← one .rest, e)
-
-    module _ (dst third : ℕ) (two : Seen dst-key text second dst third) where
-      pub broken-third : lineGood due-key (drop third text) ≡ false → Broken 2 ≡ rowSeen text at
-      unfolding rowSeen
-      broken-third e = rw (one .good, ← one .rest, two .good, ← two .rest, e)
-
-      module _ (due next : ℕ) (three : Seen due-key text third due next) where
-        pub row-is : record { src = src; dst = dst; due = due } ≡ rowAt (drop at text)
-        unfolding rowAt
-        row-is = rw (← one .rest, ← two .rest, ← one .value, ← two .value, ← three .value)
-
-        pub past-is : drop next text ≡ pastRow (drop at text)
-        unfolding pastRow
-        past-is = rw (← one .rest, ← two .rest, ← three .rest)
-
-        pub place-is : next ≡ at + length (rowText (record { src = src; dst = dst; due = due }))
-        unfolding rowText
-        place-is = simp length-append (omega (arith, one .past, two .past, three .past))
-
-        pub whole : Whole (record { src = src; dst = dst; due = due }) next ≡ rowSeen text at
-        unfolding rowSeen
-        whole = rw (one .good, ← one .rest, two .good, ← two .rest, three .good, ← row-is) (ap (Whole (record { src = src; dst = dst; due = due })) place-is)
+  pub row-whole : length row-keys ≤ j → at ≤ length text → Whole (rowBy vs) next ≡ rowSeen text at
+  unfolding rowSeen rowAt
+  row-whole done h =
+      let from = drop at text in
+      let right = right-all row-keys from (all-right k done) in
+      let row : rowBy vs ≡ rowAt from = ap rowBy (sym (all-said k done)) in
+      let stands : length from ≡ length (rowText (rowAt from)) + length (behindLines row-keys from) = ap length (row-stands from right) ∙ length-append (rowText (rowAt from)) (behindLines row-keys from) in
+      let rest : length (behindLines row-keys from) ≡ length text - next = ap length (all-past k done) ∙ length-drop next text in
+      let place : next ≡ at + length (rowText (rowAt from)) = omega (arith, length-drop at text, k .inside) in
+      cc (row, place, le-ltb (rightLines row-keys from) (length row-keys) (all-right k done))

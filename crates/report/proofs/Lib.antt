@@ -1,4 +1,3 @@
-pub mod Putting
 pub mod Lines
 mod Listing
 mod Sending

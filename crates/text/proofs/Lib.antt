@@ -4,6 +4,7 @@ pub mod Front
 pub mod Lines
 pub mod RowLaws
 pub mod Pasting
+pub mod Putting
 pub mod Lengths
 pub mod RoundTrip
 pub mod Promises

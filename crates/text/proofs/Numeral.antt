@@ -18,7 +18,7 @@ use borrow.Author.Tests.{ltb-true, ltb-false, leb-true, le-leb}
 use lib.Dec.{ltb, leb}
 use lib.ListN.{length, getD, drop, length-append}
 use lib.Seq.{append-snoc}
-use Rattle.text.specs.Text.{width, lastDigits, numeral, digitsAt, extended}
+use Rattle.text.specs.Text.{width, lastDigits, numeral, isDigit, digitsAt, extended}
 
 abbrev pub Digits : List ℕ → Type 0
 Digits [] = Unit {0}
@@ -132,13 +132,13 @@ no-line-feed [] i p e = omega arith
 no-line-feed (d ∷ ds) zero p e = omega arith
 no-line-feed (d ∷ ds) (suc i) p e = no-line-feed ds i (p .2) e
 
--- the digits at the front of some bytes
-pub digits-read : (k : ℕ) (ds r : List ℕ) → Digits ds → length ds ≤ k → digitsAt k (ds ++ (10 ∷ r)) ≡ ds
+-- the digits at the front of some bytes, up to a mark that is none
+pub digits-read : (k : ℕ) (ds : List ℕ) (mark : ℕ) (r : List ℕ) → isDigit mark ≡ false → Digits ds → length ds ≤ k → digitsAt k (ds ++ (mark ∷ r)) ≡ ds
 unfolding digitsAt
-digits-read zero [] r p h = refl
-digits-read zero (d ∷ ds) r p h = absurd (not-suc-le-zero h)
-digits-read (suc k) [] r p h = refl
-digits-read (suc k) (d ∷ ds) r p h = rw (le-leb 48 d (p .0), le-leb d 57 (p .1), digits-read k ds r (p .2) (le-of-suc-le-suc h))
+digits-read zero [] mark r n p h = refl
+digits-read zero (d ∷ ds) mark r n p h = absurd (not-suc-le-zero h)
+digits-read (suc k) [] mark r n p h = rw n
+digits-read (suc k) (d ∷ ds) mark r n p h = rw (le-leb 48 d (p .0), le-leb d 57 (p .1), digits-read k ds mark r n (p .2) (le-of-suc-le-suc h))
 
 pub digits-are : (k : ℕ) (bytes : List ℕ) → Digits (digitsAt k bytes)
 unfolding digitsAt

@@ -1,124 +1,109 @@
--- `reader::row_at` meets its contract: each return is one law of three lines.
+-- `reader::row_at` meets its contract: as long as the lines passed are right, what is said of all is said of the rest.
 -- Assumes nothing.
-use Rattle.text.specs.Text.{src-key, dst-key, due-key}
-use Rattle.reader.proofs.Rows.{not-seen, seen-line, broken-first, broken-second, broken-third, whole}
+use mathlib.Core.Path.{_∙_, ap}
+use mathlib.Core.List.{List, []}
+use Prim.Native.Nat.{ℕ, _-_}
 use borrow.Author.Needs.{needs}
+use lib.ListN.{length, getD}
+use Rattle.table.specs.declared.Row.{Row}
+use Rattle.text.specs.Text.{line-feed, row-keys}
+use Rattle.lines.specs.Items.{lineSeen}
+use Rattle.reader.specs.declared.RowSeen.the-variants.{Whole}
+use Rattle.lines.proofs.Seen.{not-seen, seen-item}
+use Rattle.reader.proofs.Rows.{Reached, none-reached, more-reached, row-broken, row-whole}
 use Rattle.reader.proofs.row_at.Statement.{statement}
 use Rattle.reader.proofs.row_at.Tie as tie
 
-slice-aggregate-line-at : tie.Need-slice-aggregate-line-at
+abbrev Inv-loop : tie.InvT-loop
+Inv-loop text at values₀ next₀ j₀ values next j = Reached row-keys text at values next j
+
+abbrev μ-loop : tie.MeasureT-loop
+μ-loop text at values₀ next₀ j₀ values next j = length row-keys - j
+
+loop-holds : tie.Need-loop-holds Inv-loop μ-loop
+unfolding row-keys
+loop-holds c = none-reached row-keys _ _ _ (search needs) (search needs)
+
+row-key-requires : tie.Need-row-key-requires Inv-loop μ-loop
+unfolding row-keys
+row-key-requires c κs = search needs
+
+slice-aggregate-line-at : tie.Need-slice-aggregate-line-at Inv-loop μ-loop
 slice-aggregate-line-at c = search needs
 
-line-at-requires : tie.Need-line-at-requires
+line-at-requires : tie.Need-line-at-requires Inv-loop μ-loop
 line-at-requires c κs = search needs
 
-enum-known-src : tie.Need-enum-known-src
-enum-known-src c = search needs
+enum-known-v : tie.Need-enum-known-v Inv-loop μ-loop
+enum-known-v c = search needs
 
-enum-told : tie.Need-enum-told
+enum-told : tie.Need-enum-told Inv-loop μ-loop
 enum-told c = search needs
 
-returns : tie.Need-returns
+cast-t14 : tie.Need-cast-t14 Inv-loop μ-loop
+cast-t14 c = search needs
+
+returns : tie.Need-returns Inv-loop μ-loop
+unfolding row-keys
 returns c =
-    let text = c .before .before .before .before .before .args .text .now in
-    let at = c .before .before .before .before .before .args .at in
-    let l1 = c .before .before .line-at in
-    broken-first text at (not-seen src-key text at (l1 .result) (l1 .ensures) (c .enum-told .given .1))
+    let text = c .before .before .before .before .before .before .before .before .args .text .now in
+    let k = c .before .before .before .before .before .before .loop in
+    let key = c .before .before .before .before .row-key in
+    let l = c .before .before .line-at in
+    let seen = l .ensures ∙ ap (λ (b : List ℕ). lineSeen b text (k .next)) (key .ensures) in
+    row-broken (k .inv) (search needs) (not-seen (getD row-keys (k .j) []) line-feed text (k .next) (l .result) seen (c .enum-told .given .1))
 
-slice-aggregate-line-at-2 : tie.Need-slice-aggregate-line-at-2
-slice-aggregate-line-at-2 c = search needs
+mul-values : tie.Need-mul-values Inv-loop μ-loop
+mul-values c = search needs
 
-line-at-requires-2 : tie.Need-line-at-requires-2
-line-at-requires-2 c κs =
-    let text = c .before .before .before .before .before .before .before .args .text .now in
-    let at = c .before .before .before .before .before .before .before .args .at in
-    let l1 = c .before .before .before .before .line-at in
-    let g1 = c .before .before .src .given in
-    let one = seen-line src-key text at (l1 .result) (l1 .ensures) (g1 .0 .0) (g1 .0 .1 .0) (c .before .before .before .before .before .before .before .pre) (g1 .1) in
-    one .inside
+array-write-values : tie.Need-array-write-values Inv-loop μ-loop
+array-write-values c = search needs
 
-enum-known-dst : tie.Need-enum-known-dst
-enum-known-dst c = search needs
+add-j : tie.Need-add-j Inv-loop μ-loop
+add-j c = search needs
 
-enum-told-2 : tie.Need-enum-told-2
-enum-told-2 c = search needs
+loop-less : tie.Need-loop-less Inv-loop μ-loop
+unfolding row-keys
+loop-less c = search needs
 
-returns-2 : tie.Need-returns-2
+loop-again : tie.Need-loop-again Inv-loop μ-loop
+unfolding row-keys
+loop-again c =
+    let text = c .before .before .before .before .before .before .before .before .before .args .text .now in
+    let k = c .before .before .before .before .before .before .before .loop in
+    let key = c .before .before .before .before .before .row-key in
+    let l = c .before .before .before .line-at in
+    let g = c .before .v .given in
+    let seen = l .ensures ∙ ap (λ (b : List ℕ). lineSeen b text (k .next)) (key .ensures) in
+    more-reached (k .inv) (search needs) (g .0 .0) (g .0 .1 .0) (seen-item (getD row-keys (k .j) []) line-feed text (k .next) (l .result) seen (g .0 .0) (g .0 .1 .0) (k .inv .inside) (g .1))
+
+row-by-requires : tie.Need-row-by-requires Inv-loop μ-loop
+row-by-requires c κs = search needs
+
+returns-2 : tie.Need-returns-2 Inv-loop μ-loop
+unfolding row-keys
 returns-2 c =
-    let text = c .before .before .before .before .before .before .before .before .before .before .args .text .now in
-    let at = c .before .before .before .before .before .before .before .before .before .before .args .at in
-    let l1 = c .before .before .before .before .before .before .before .line-at in
-    let g1 = c .before .before .before .before .before .src .given in
-    let one = seen-line src-key text at (l1 .result) (l1 .ensures) (g1 .0 .0) (g1 .0 .1 .0) (c .before .before .before .before .before .before .before .before .before .before .pre) (g1 .1) in
-    let l2 = c .before .before .line-at2 in
-    broken-second text at (g1 .0 .0) (g1 .0 .1 .0) one (not-seen dst-key text (g1 .0 .1 .0) (l2 .result) (l2 .ensures) (c .enum-told2 .given .1))
-
-slice-aggregate-line-at-3 : tie.Need-slice-aggregate-line-at-3
-slice-aggregate-line-at-3 c = search needs
-
-line-at-requires-3 : tie.Need-line-at-requires-3
-line-at-requires-3 c κs =
-    let text = c .before .before .before .before .before .before .before .before .before .before .before .before .args .text .now in
-    let at = c .before .before .before .before .before .before .before .before .before .before .before .before .args .at in
-    let l1 = c .before .before .before .before .before .before .before .before .before .line-at in
-    let g1 = c .before .before .before .before .before .before .before .src .given in
-    let one = seen-line src-key text at (l1 .result) (l1 .ensures) (g1 .0 .0) (g1 .0 .1 .0) (c .before .before .before .before .before .before .before .before .before .before .before .before .pre) (g1 .1) in
-    let l2 = c .before .before .before .before .line-at2 in
-    let g2 = c .before .before .dst .given in
-    let two = seen-line dst-key text (g1 .0 .1 .0) (l2 .result) (l2 .ensures) (g2 .0 .0) (g2 .0 .1 .0) (one .inside) (g2 .1) in
-    two .inside
-
-enum-known-due : tie.Need-enum-known-due
-enum-known-due c = search needs
-
-enum-told-3 : tie.Need-enum-told-3
-enum-told-3 c = search needs
-
-returns-3 : tie.Need-returns-3
-returns-3 c =
-    let text = c .before .before .before .before .before .before .before .before .before .before .before .before .before .before .before .args .text .now in
-    let at = c .before .before .before .before .before .before .before .before .before .before .before .before .before .before .before .args .at in
-    let l1 = c .before .before .before .before .before .before .before .before .before .before .before .before .line-at in
-    let g1 = c .before .before .before .before .before .before .before .before .before .before .src .given in
-    let one = seen-line src-key text at (l1 .result) (l1 .ensures) (g1 .0 .0) (g1 .0 .1 .0) (c .before .before .before .before .before .before .before .before .before .before .before .before .before .before .before .pre) (g1 .1) in
-    let l2 = c .before .before .before .before .before .before .before .line-at2 in
-    let g2 = c .before .before .before .before .before .dst .given in
-    let two = seen-line dst-key text (g1 .0 .1 .0) (l2 .result) (l2 .ensures) (g2 .0 .0) (g2 .0 .1 .0) (one .inside) (g2 .1) in
-    let l3 = c .before .before .line-at3 in
-    broken-third text at (g1 .0 .0) (g1 .0 .1 .0) one (g2 .0 .0) (g2 .0 .1 .0) two (not-seen due-key text (g2 .0 .1 .0) (l3 .result) (l3 .ensures) (c .enum-told3 .given .1))
-
-returns-4 : tie.Need-returns-4
-returns-4 c =
-    let text = c .before .before .before .before .before .before .before .before .before .before .before .before .before .before .before .before .args .text .now in
-    let at = c .before .before .before .before .before .before .before .before .before .before .before .before .before .before .before .before .args .at in
-    let l1 = c .before .before .before .before .before .before .before .before .before .before .before .before .before .line-at in
-    let g1 = c .before .before .before .before .before .before .before .before .before .before .before .src .given in
-    let one = seen-line src-key text at (l1 .result) (l1 .ensures) (g1 .0 .0) (g1 .0 .1 .0) (c .before .before .before .before .before .before .before .before .before .before .before .before .before .before .before .before .pre) (g1 .1) in
-    let l2 = c .before .before .before .before .before .before .before .before .line-at2 in
-    let g2 = c .before .before .before .before .before .before .dst .given in
-    let two = seen-line dst-key text (g1 .0 .1 .0) (l2 .result) (l2 .ensures) (g2 .0 .0) (g2 .0 .1 .0) (one .inside) (g2 .1) in
-    let l3 = c .before .before .before .line-at3 in
-    let g3 = c .before .due .given in
-    let three = seen-line due-key text (g2 .0 .1 .0) (l3 .result) (l3 .ensures) (g3 .0 .0) (g3 .0 .1 .0) (two .inside) (g3 .1) in
-    whole text at (g1 .0 .0) (g1 .0 .1 .0) one (g2 .0 .0) (g2 .0 .1 .0) two (g3 .0 .0) (g3 .0 .1 .0) three
+    let k = c .before .before .loop in
+    ap (λ (r : Row). Whole r (k .next)) (c .row-by .ensures) ∙ row-whole (k .inv) (search needs) (c .before .before .before .before .pre)
 
 pub row-at-spec : {M : Type 1} → statement M
 row-at-spec =
     tie.close
     (tie.spec
+    Inv-loop
+    μ-loop
+    loop-holds
+    row-key-requires
     slice-aggregate-line-at
     line-at-requires
-    enum-known-src
+    enum-known-v
     enum-told
+    cast-t14
     returns
-    slice-aggregate-line-at-2
-    line-at-requires-2
-    enum-known-dst
-    enum-told-2
-    returns-2
-    slice-aggregate-line-at-3
-    line-at-requires-3
-    enum-known-due
-    enum-told-3
-    returns-3
-    returns-4)
+    mul-values
+    array-write-values
+    add-j
+    loop-less
+    loop-again
+    row-by-requires
+    returns-2)

@@ -7,9 +7,8 @@ use mathlib.Core.List.{List, [], _++_, append-assoc, append-nil}
 use Prim.Native.Nat.{ℕ, _+_, _≤_}
 use native.Mathlib.Omega.{arith}
 use lib.ListN.{length, length-append}
-use Rattle.text.specs.Steps.{pasted}
+use Rattle.text.specs.Steps.{pasted, Put, Room}
 use Rattle.text.proofs.Pasting.{pasted-none, pasted-length, pasted-more}
-use Rattle.report.specs.Steps.{Put, Room}
 
 -- Of the bytes `whole`, those before `rest` stand at their place in the area.
 pub record Putting (area₀ : List ℕ) (from : ℕ) (whole area : List ℕ) (at : ℕ) (rest : List ℕ) : Type 0 where

@@ -1,11 +1,11 @@
--- `reader::figures_at` meets its contract: the digits passed and the digits at the rest make the whole.
+-- `lines::figures_at` meets its contract: the digits passed and the digits at the rest make the whole.
 -- Assumes nothing.
 use Prim.Native.Nat.{_-_}
 use native.Mathlib.Omega.{arith}
 use borrow.Author.Needs.{needs}
-use Rattle.reader.proofs.Counting.{Read, none-read, value-fits, ended, below, above, further}
-use Rattle.reader.proofs.figures_at.Statement.{statement}
-use Rattle.reader.proofs.figures_at.Tie as tie
+use Rattle.lines.proofs.Counting.{Read, none-read, value-fits, ended, below, above, further}
+use Rattle.lines.proofs.figures_at.Statement.{statement}
+use Rattle.lines.proofs.figures_at.Tie as tie
 
 abbrev Inv-loop : tie.InvT-loop
 Inv-loop text at most value₀ i₀ value i = Read text at value i

@@ -12,7 +12,7 @@ use lib.Dec.{leb, ltb}
 use lib.ListN.{length, getD, drop, drop-of-length-le}
 use lib.Seq.{drop-cons}
 use Rattle.text.specs.Text.{digitsAt, extended}
-use Rattle.reader.specs.Steps.{figuresIn}
+use Rattle.lines.specs.Items.{figuresIn}
 
 nothing-there : (k : ℕ) → digitsAt k [] ≡ []
 unfolding digitsAt

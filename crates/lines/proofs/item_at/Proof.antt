@@ -1,12 +1,12 @@
--- `reader::line_at` meets its contract: each return is one law of a line.
+-- `lines::item_at` meets its contract: each return is one law of an item.
 -- Assumes nothing.
 use mathlib.Core.Path.{_∙_, sym}
 use native.Mathlib.Omega.{arith}
 use borrow.Author.Tests.{not-true, not-false}
-use Rattle.reader.proofs.Seeing.{no-key, key-inside, figures-inside, seen-great, seen-other, seen-no-end, seen-other-end, seen-good}
+use Rattle.lines.proofs.Seeing.{no-key, key-inside, figures-inside, seen-great, seen-other, seen-no-end, seen-other-end, seen-good}
 use borrow.Author.Needs.{needs}
-use Rattle.reader.proofs.line_at.Statement.{statement}
-use Rattle.reader.proofs.line_at.Tie as tie
+use Rattle.lines.proofs.item_at.Statement.{statement}
+use Rattle.lines.proofs.item_at.Tie as tie
 
 key-at-requires : tie.Need-key-at-requires
 key-at-requires c κs = search needs
@@ -16,7 +16,8 @@ returns c =
     let key = c .before .before .before .before .args .key .now in
     let text = c .before .before .before .before .args .text .now in
     let at = c .before .before .before .before .args .at in
-    no-key key text at (sym (c .before .key-at .ensures) ∙ not-true _ (c .if1 .taken))
+    let mark = c .before .before .before .before .args .mark in
+    no-key key mark text at (sym (c .before .key-at .ensures) ∙ not-true _ (c .if1 .taken))
 
 add-from : tie.Need-add-from
 add-from c = search needs
@@ -26,16 +27,18 @@ figures-at-requires c κs =
     let key = c .before .before .before .before .args .key .now in
     let text = c .before .before .before .before .args .text .now in
     let at = c .before .before .before .before .args .at in
+    let mark = c .before .before .before .before .args .mark in
     let stands = sym (c .before .key-at .ensures) ∙ not-false _ (c .if1 .left) in
-    key-inside key text at (c .before .before .before .before .pre) stands
+    key-inside key text at (c .before .before .before .before .pre .0) stands
 
 returns-2 : tie.Need-returns-2
 returns-2 c =
     let key = c .before .before .before .before .before .before .before .args .key .now in
     let text = c .before .before .before .before .before .before .before .args .text .now in
     let at = c .before .before .before .before .before .before .before .args .at in
+    let mark = c .before .before .before .before .before .before .before .args .mark in
     let f = c .before .before .figures-at in
-    seen-great key text at (f .result) (f .ensures) (c .if2 .taken)
+    seen-great key mark text at (f .result) (f .ensures) (c .if2 .taken)
 
 width-of-requires : tie.Need-width-of-requires
 width-of-requires c κs = search needs
@@ -45,27 +48,30 @@ returns-3 c =
     let key = c .before .before .before .before .before .before .before .before .before .before .args .key .now in
     let text = c .before .before .before .before .before .before .before .before .before .before .args .text .now in
     let at = c .before .before .before .before .before .before .before .before .before .before .args .at in
+    let mark = c .before .before .before .before .before .before .before .before .before .before .args .mark in
     let f = c .before .before .before .before .before .figures-at in
     let w = c .before .before .width-of in
-    seen-other key text at (f .result) (f .ensures) (w .result) (w .ensures) (c .if3 .taken)
+    seen-other key mark text at (f .result) (f .ensures) (w .result) (w .ensures) (c .before .before .before .before .before .before .before .before .before .before .pre .1) (c .if3 .taken)
 
 add-end : tie.Need-add-end
 add-end c =
     let key = c .before .before .before .before .before .before .before .before .before .before .before .args .key .now in
     let text = c .before .before .before .before .before .before .before .before .before .before .before .args .text .now in
     let at = c .before .before .before .before .before .before .before .before .before .before .before .args .at in
+    let mark = c .before .before .before .before .before .before .before .before .before .before .before .args .mark in
     let f = c .before .before .before .before .before .before .figures-at in
     let stands = sym (c .before .before .before .before .before .before .before .before .key-at .ensures) ∙ not-false _ (c .before .before .before .before .before .before .before .if1 .left) in
-    omega (arith, figures-inside key text at (f .result) (f .ensures) (key-inside key text at (c .before .before .before .before .before .before .before .before .before .before .before .pre) stands))
+    omega (arith, figures-inside key mark text at (f .result) (f .ensures) (key-inside key text at (c .before .before .before .before .before .before .before .before .before .before .before .pre .0) stands))
 
 returns-4 : tie.Need-returns-4
 returns-4 c =
     let key = c .before .before .before .before .before .before .before .before .before .before .before .before .args .key .now in
     let text = c .before .before .before .before .before .before .before .before .before .before .before .before .args .text .now in
     let at = c .before .before .before .before .before .before .before .before .before .before .before .before .args .at in
+    let mark = c .before .before .before .before .before .before .before .before .before .before .before .before .args .mark in
     let f = c .before .before .before .before .before .before .before .figures-at in
     let w = c .before .before .before .before .width-of in
-    seen-no-end key text at (f .result) (f .ensures) (w .result) (w .ensures) (c .before .before .if3 .left) (c .if4 .taken)
+    seen-no-end key mark text at (f .result) (f .ensures) (w .result) (w .ensures) (c .before .before .if3 .left) (c .if4 .taken)
 
 shared-slice-read-if5 : tie.Need-shared-slice-read-if5
 shared-slice-read-if5 c = search needs
@@ -75,28 +81,30 @@ returns-5 c =
     let key = c .before .before .before .before .before .before .before .before .before .before .before .before .before .before .args .key .now in
     let text = c .before .before .before .before .before .before .before .before .before .before .before .before .before .before .args .text .now in
     let at = c .before .before .before .before .before .before .before .before .before .before .before .before .before .before .args .at in
+    let mark = c .before .before .before .before .before .before .before .before .before .before .before .before .before .before .args .mark in
     let f = c .before .before .before .before .before .before .before .before .before .figures-at in
     let w = c .before .before .before .before .before .before .width-of in
-    seen-other-end key text at (f .result) (f .ensures) (w .result) (w .ensures) (c .before .before .before .before .if3 .left) (c .before .before .if4 .left) (c .if5 .taken)
+    seen-other-end key mark text at (f .result) (f .ensures) (w .result) (w .ensures) (c .before .before .before .before .if3 .left) (c .before .before .if4 .left) (c .if5 .taken)
 
-cast-t12 : tie.Need-cast-t12
-cast-t12 c = search needs
+cast-t13 : tie.Need-cast-t13
+cast-t13 c = search needs
 
-add-t9 : tie.Need-add-t9
-add-t9 c = search needs
+add-t10 : tie.Need-add-t10
+add-t10 c = search needs
 
 returns-6 : tie.Need-returns-6
 returns-6 c =
     let key = c .before .before .before .before .before .before .before .before .before .before .before .before .before .before .before .args .key .now in
     let text = c .before .before .before .before .before .before .before .before .before .before .before .before .before .before .before .args .text .now in
     let at = c .before .before .before .before .before .before .before .before .before .before .before .before .before .before .before .args .at in
+    let mark = c .before .before .before .before .before .before .before .before .before .before .before .before .before .before .before .args .mark in
     let f = c .before .before .before .before .before .before .before .before .before .before .figures-at in
     let w = c .before .before .before .before .before .before .before .width-of in
     let stands = sym (c .before .before .before .before .before .before .before .before .before .before .before .before .key-at .ensures) ∙ not-false _ (c .before .before .before .before .before .before .before .before .before .before .before .if1 .left) in
-    seen-good key text at (f .result) (f .ensures) (w .result) (w .ensures) (c .before .before .before .before .before .if3 .left) (c .before .before .before .if4 .left) stands (c .before .before .before .before .before .before .before .before .if2 .left) (c .before .if5 .left)
+    seen-good key mark text at (f .result) (f .ensures) (w .result) (w .ensures) (c .before .before .before .before .before .if3 .left) (c .before .before .before .if4 .left) stands (c .before .before .before .before .before .before .before .before .if2 .left) (c .before .if5 .left)
 
-pub line-at-spec : {M : Type 1} → statement M
-line-at-spec =
+pub item-at-spec : {M : Type 1} → statement M
+item-at-spec =
     tie.close
     (tie.spec
     key-at-requires
@@ -110,6 +118,6 @@ line-at-spec =
     returns-4
     shared-slice-read-if5
     returns-5
-    cast-t12
-    add-t9
+    cast-t13
+    add-t10
     returns-6)

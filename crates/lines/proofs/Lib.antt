@@ -1,0 +1,3 @@
+mod Counting
+mod Seeing
+pub mod Seen
