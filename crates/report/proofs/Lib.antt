@@ -7,3 +7,4 @@ pub mod Accepting
 pub mod Responding
 pub mod Cases
 pub mod Shape
+pub mod Rest

@@ -1,7 +1,7 @@
 -- The lengths of lines: a line takes its key and six bytes at most.
---     item-most, line-most      an item or a line
---     bytesOf, lines-most       the lines of some keys
---     row-most, rows-long       the lines of a row, and of rows
+--     item-most, line-most                an item or a line
+--     bytesOf, lines-most                 the lines of some keys
+--     row-bytes, row-most, rows-long      the lines of a row, and of rows
 -- Assumes nothing.
 use mathlib.Core.List.{List, [], _∷_}
 use Prim.Native.Nat.{ℕ, _+_, _*_, _≤_}
@@ -29,12 +29,15 @@ lines-most [] vs = omega arith
 lines-most (k ∷ ks) [] = omega arith
 lines-most (k ∷ ks) (v ∷ vs) = omega (arith, length-append (line k v) (linesText ks vs), line-most k v, lines-most ks vs)
 
--- 30 bytes are enough for the lines of a row
-pub row-most : (r : Row) → length (rowText r) ≤ 30
+-- the bytes that are enough for the lines of a row
+abbrev pub row-bytes : ℕ
+row-bytes = 30
+
+pub row-most : (r : Row) → length (rowText r) ≤ row-bytes
 unfolding rowText bytesOf row-keys
 row-most r = lines-most row-keys (values r)
 
-pub rows-long : (rows : List Row) → length (rowsText rows) ≤ 30 * length rows
+pub rows-long : (rows : List Row) → length (rowsText rows) ≤ row-bytes * length rows
 unfolding rowsText
 rows-long [] = omega arith
 rows-long (r ∷ rs) = omega (arith, length-append (rowText r) (rowsText rs), row-most r, rows-long rs)

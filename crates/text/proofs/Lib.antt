@@ -9,3 +9,4 @@ pub mod Lengths
 pub mod RoundTrip
 pub mod Promises
 pub mod FirstWrong
+pub mod Rest

@@ -1,7 +1,7 @@
 -- What is left to write: the lines of a row from one line on, and the lines of the rows from one row on.
 --     lines-next, rows-next      the next of them, and those behind it
 --     no-lines, no-rows          nothing is left
---     rows-most                  30 bytes a row are enough
+--     rows-most                  how many bytes are enough
 --     Summed, Laid               the bytes of j lines of a row are counted; they stand at their place
 -- Assumes nothing.
 use mathlib.Core.Path.{_≡_, refl, _∙_, ap, sym}
@@ -18,7 +18,7 @@ use Rattle.table.proofs.Rows.{rowOf, length-listed}
 use Rattle.table.specs.declared.Row.{Row}
 use Rattle.text.specs.Text.{row-keys, values, line, linesText, rowText, rowsText}
 use Rattle.text.specs.Steps.{pasted, Put, Room}
-use Rattle.text.proofs.Lengths.{bytesOf, lines-most, rows-long}
+use Rattle.text.proofs.Lengths.{bytesOf, row-bytes, lines-most, rows-long}
 use Rattle.text.proofs.Putting.{Putting, begun, fits, put-on, one-put, all-put}
 
 pub lines-next : (keys : List (List ℕ)) (vs : List ℕ) (j : ℕ) → length vs ≡ length keys → j < length keys → linesText (drop j keys) (drop j vs) ≡ line (getD keys j []) (getD vs j 0) ++ linesText (drop (j + 1) keys) (drop (j + 1) vs)
@@ -29,7 +29,7 @@ pub no-lines : (keys : List (List ℕ)) (vs : List ℕ) (j : ℕ) → length key
 unfolding linesText
 no-lines keys vs j h = rw (drop-of-length-le keys h)
 
-lines-small : (vs : List ℕ) → length (linesText row-keys vs) ≤ 30
+lines-small : (vs : List ℕ) → length (linesText row-keys vs) ≤ row-bytes
 unfolding row-keys bytesOf
 lines-small vs = lines-most row-keys vs
 
@@ -42,7 +42,7 @@ module _ (rows : ℕ) (c : Columns) where
   unfolding rowsText
   no-rows i h = let past : length (listed rows c) ≤ i = omega (arith, length-listed rows c) in rw (drop-of-length-le (listed rows c) past)
 
-  pub rows-most : length (rowsText (listed rows c)) ≤ 30 * rows
+  pub rows-most : length (rowsText (listed rows c)) ≤ row-bytes * rows
   rows-most = omega (arith, rows-long (listed rows c), length-listed rows c)
 
 -- the bytes of j lines are counted, and those of the lines that are left make the whole
@@ -63,7 +63,7 @@ module _ {vs : List ℕ} {sum j : ℕ} (k : Summed vs sum j) where
         let is : n ≡ length piece = long ∙ rw of in
         omega (arith, k .sums, ap length (lines-next row-keys vs j (k .long) more), length-append piece rest)
 
-    pub sum-small : sum + n ≤ 30
+    pub sum-small : sum + n ≤ row-bytes
     sum-small = omega (arith, next, lines-small vs)
 
     pub more-summed : Summed vs (sum + n) (j + 1)
