@@ -1,11 +1,15 @@
-// Reads a number behind a key at a place of a text: digit by digit, up to the mark that ends it.
+// Reads at a place of a text: a number behind a key, digit by digit, up to the mark that ends it, a line, and the lines of a row.
 ghost use mathlib.Core.Path.{_≡_};
 ghost use mathlib.Core.Bool.{false};
 ghost use Prim.Native.Nat.{min, _≤_};
 ghost use lib.ListN.{length, drop};
 ghost use Rattle.text.specs.Text.{isDigit};
-ghost use Rattle.lines.specs.Items.{figuresIn, itemSeen, lineSeen};
+ghost use Rattle.lines.specs.Items.{figuresIn, itemSeen, lineSeen, rowSeen};
+use table::Row;
+use text::ROW_LINES;
 use text::key_at;
+use text::row_by;
+use text::row_key;
 use text::width_of;
 
 // The digits at a place: the number that they say, and how many they are.
@@ -18,6 +22,12 @@ pub struct Figures {
 pub enum Item {
     Good(u16, usize),
     Wrong,
+}
+
+// The lines of a row at a place: the row and the place behind them, or how many are right before the first that is wrong.
+pub enum RowSeen {
+    Whole(Row, usize),
+    Broken(u16),
 }
 
 // The lesser of two numbers.
@@ -81,4 +91,24 @@ pub fn line_at(text: &[u8], at: usize, key: &[u8]) -> Item
     ensures { λ r. ⌜ r ≡ lineSeen (now (key .entry)) (now (text .entry)) at ⌝ }
 {
     item_at(text, at, key, 10)
+}
+
+// The lines of a row at a place of a text.
+pub fn row_at(text: &[u8], at: usize) -> RowSeen
+    requires { ⌜ at ≤ length (now text) ⌝ }
+    ensures { λ r. ⌜ r ≡ rowSeen (now (text .entry)) at ⌝ }
+{
+    let mut values = [0u16; ROW_LINES];
+    let mut next = at;
+    let mut j = 0;
+    while j < ROW_LINES {
+        let key = row_key(j);
+        let Item::Good(v, end) = line_at(text, next, &key) else {
+            return RowSeen::Broken(j as u16);
+        };
+        values[j] = v;
+        next = end;
+        j += 1;
+    }
+    RowSeen::Whole(row_by(values), next)
 }

@@ -1,4 +1,3 @@
-mod Rows
 mod ColumnLaws
 mod Loading
 mod Heading

@@ -1,86 +1,24 @@
 -- The rows read one after the other, as `read_rows` reads them.
---     row-broken, row-whole        what each answer of `row_at` says
 --     Loaded                       i rows are read, and the rest's answer is the whole answer
 --     none-loaded, more-loaded, stopped-at, left-over, all-loaded   its laws
 -- Assumes nothing.
 use mathlib.Core.Path.{_≡_, refl, _∙_, ap, sym}
-use mathlib.Core.Bool.{Bool, true, false}
 use mathlib.Core.List.{List, [], _∷_, _++_, map}
 use Prim.Native.Nat.{ℕ, zero, suc, _+_, _-_, _*_, _≤_, _<_}
 use native.Mathlib.Numerals.{add-one}
 use native.Mathlib.Omega.{arith}
-use borrow.Author.Tests.{ne-eqb, ltb-true, ltb-false}
-use lib.Dec.{ltb}
-use lib.ListN.{length, set, drop, length-drop, length-append, length-map, replicate, drop-of-length-le}
-use lib.Seq.{drop-drop, drop-append-seam}
+use borrow.Author.Tests.{ne-eqb}
+use lib.ListN.{length, set, drop, length-drop, length-map, replicate, drop-of-length-le}
 use Rattle.table.specs.Table.{destinations, dues}
 use Rattle.table.specs.Steps.{column, columns, sources}
 use Rattle.table.specs.declared.Row.{Row}
-use Rattle.reader.specs.declared.RowSeen.{RowSeen}
-use Rattle.reader.specs.declared.RowSeen.the-variants.{Whole, Broken}
-use Rattle.text.specs.Text.{row-keys, rowText, behindLines, wrongLine, rowsKeys, rowAt, rowsAt}
-use Rattle.reader.specs.Steps.{rightLines, rowSeen, RowsTaken}
+use Rattle.text.specs.Text.{row-keys, behindLines, wrongLine, rowsKeys, rowAt, rowsAt}
+use Rattle.reader.specs.Steps.{RowsTaken}
 use Rattle.reader.proofs.ColumnLaws.{column-none, column-more, map-last}
-use Rattle.reader.proofs.Rows.{row-lines, right-all, broken-on}
-use Rattle.text.proofs.RowLaws.{Right, right-on, row-stands}
-
-never-whole : {r : Row} {n k : ℕ} → Whole r n ≡ Broken k → ⊥
-never-whole e = let z : _≡_ {A = ℕ} 0 1 = cc in omega arith
-
--- what the lines of a row at a place came to
-pub record Passed (text : List ℕ) (at : ℕ) (r : Row) (n : ℕ) : Type 0 where
-  pub right : Right row-keys (drop at text)
-  pub row : r ≡ rowAt (drop at text)
-  pub inside : n ≤ length text
-  pub rest : drop n text ≡ behindLines row-keys (drop at text)
-
-module _ (text : List ℕ) (at : ℕ) (s : RowSeen) (so : s ≡ rowSeen text at) where
-  abbrev from : List ℕ
-  from = drop at text
-
-  abbrev right : ℕ
-  right = rightLines row-keys from
-
-  abbrev past : ℕ
-  past = at + length (rowText (rowAt from))
-
-  broken-is : ltb right (length row-keys) ≡ true → s ≡ Broken right
-  unfolding rowSeen
-  broken-is e = so ∙ rw e
-
-  whole-is : ltb right (length row-keys) ≡ false → s ≡ Whole (rowAt from) past
-  unfolding rowSeen
-  whole-is e = so ∙ rw e
-
-  pub row-broken : (k : ℕ) → s ≡ Broken k → (k < length row-keys) × (right ≡ k)
-  row-broken k b = go (ltb right (length row-keys)) refl
-    where
-      go : (x : Bool) → ltb right (length row-keys) ≡ x → (k < length row-keys) × (right ≡ k)
-      go true e =
-          let same : Broken k ≡ Broken right = sym b ∙ broken-is e in
-          let is : right ≡ k = cc in
-          (omega (arith, ltb-true right (length row-keys) e), is)
-      go false e = absurd (never-whole (sym (whole-is e) ∙ b))
-
-  pub row-whole : (r : Row) (n : ℕ) → at ≤ length text → s ≡ Whole r n → Passed text at r n
-  row-whole r n h w = go (ltb right (length row-keys)) refl
-    where
-      go : (x : Bool) → ltb right (length row-keys) ≡ x → Passed text at r n
-      go true e = absurd (never-whole (sym w ∙ broken-is e))
-      go false e =
-          let same : Whole r n ≡ Whole (rowAt from) past = sym w ∙ whole-is e in
-          let place : n ≡ past = cc in
-          let all = right-all row-keys from (ltb-false right (length row-keys) e) in
-          let here = rowText (rowAt from) in
-          let rest = behindLines row-keys from in
-          let stands : from ≡ here ++ rest = row-stands from all in
-          let long : length from ≡ length here + length rest = ap length stands ∙ length-append here rest in
-          record {
-            right = all;
-            row = cc;
-            inside = omega (arith, length-drop at text);
-            rest = rw place (sym (drop-drop (length here) at text) ∙ ap (drop (length here)) stands ∙ drop-append-seam here rest);
-          }
+use Rattle.text.proofs.RowLaws.{right-on}
+use Rattle.lines.specs.Items.{rightLines}
+use Rattle.lines.proofs.Rows.{row-lines, broken-on}
+use Rattle.lines.proofs.Passed.{Passed}
 
 -- the text behind i rows
 pub pastRows : ℕ → List ℕ → List ℕ

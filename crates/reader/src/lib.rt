@@ -6,9 +6,11 @@ ghost use lib.ListN.{length, drop, replicate};
 ghost use Rattle.table.specs.Table.{refuse};
 ghost use Rattle.table.specs.Steps.{columns};
 ghost use Rattle.text.specs.Text.{TextParsed, filled, TextTaken};
-ghost use Rattle.reader.specs.Steps.{rowSeen, RowsTaken, TextRead};
+ghost use Rattle.reader.specs.Steps.{RowsTaken, TextRead};
 use lines::Item;
+use lines::RowSeen;
 use lines::line_at;
+use lines::row_at;
 use lists::zeros;
 use ring::Slot;
 use table::Columns;
@@ -19,34 +21,6 @@ use text::Header;
 use text::Parsed;
 use text::ROW_LINES;
 use text::Reading;
-use text::row_by;
-use text::row_key;
-
-// The lines of a row at a place: the row and the place behind them, or how many are right before the first that is wrong.
-pub enum RowSeen {
-    Whole(Row, usize),
-    Broken(u16),
-}
-
-// The lines of a row at a place of a text.
-fn row_at(text: &[u8], at: usize) -> RowSeen
-    requires { ⌜ at ≤ length (now text) ⌝ }
-    ensures { λ r. ⌜ r ≡ rowSeen (now (text .entry)) at ⌝ }
-{
-    let mut values = [0u16; ROW_LINES];
-    let mut next = at;
-    let mut j = 0;
-    while j < ROW_LINES {
-        let key = row_key(j);
-        let Item::Good(v, end) = line_at(text, next, &key) else {
-            return RowSeen::Broken(j as u16);
-        };
-        values[j] = v;
-        next = end;
-        j += 1;
-    }
-    RowSeen::Whole(row_by(values), next)
-}
 
 // Reads the lines of so many rows into three columns: the number of the first wrong line, 0 where none is.
 fn read_rows(

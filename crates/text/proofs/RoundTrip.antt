@@ -9,9 +9,9 @@ use mathlib.Core.Path.{_≡_, refl, _∙_, ap, sym}
 use mathlib.Core.Bool.{Bool, true, false, cond}
 use mathlib.Core.Logic.{_↔_}
 use mathlib.Core.List.{List, [], _∷_, _++_}
-use Prim.Native.Nat.{ℕ, zero, suc, _+_, _*_, _≤_, _<_}
+use Prim.Native.Nat.{ℕ, zero, suc, _+_, _≤_, _<_}
 use native.Mathlib.Omega.{arith}
-use borrow.Author.Tests.{lt-ltb, le-ltb, ltb-false, ne-eqb, eqb-true, eqb-false}
+use borrow.Author.Tests.{lt-ltb, le-ltb, ltb-false, ne-eqb, eqb-true}
 use lib.Dec.{eqb, ltb}
 use lib.ListN.{length, drop, length-append}
 use Rattle.table.specs.Table.{refuse}

@@ -4,15 +4,15 @@
 --     none-wrong                   where none is wrong, they are right, and none is wrong behind them
 --     lines-stand, lines-fit       then the text is just these lines and the rest, and the values are 16-bit
 --     lines-found                  and a text that begins with such lines is seen to, with their values and the rest
+--     row-values, values-back      each key of a row has its value, and a row and its values say the same
 --     row-stands, row-found        the same of the lines of a row
 -- Assumes nothing.
 use mathlib.Core.Path.{_≡_, refl, _∙_, ap, sym, subst}
 use mathlib.Core.Bool.{Bool, true, false, cond}
 use mathlib.Core.List.{List, [], _∷_, _++_, append-assoc}
-use Prim.Native.Nat.{ℕ, zero, suc, _+_, _<_}
+use Prim.Native.Nat.{ℕ, suc, _+_, _<_}
 use native.Mathlib.Omega.{arith}
-use lib.ListN.{length, getD}
-use Rattle.lists.specs.Lists.{build}
+use lib.ListN.{length}
 use Rattle.lists.proofs.Build.{build-of}
 use Rattle.table.specs.declared.Row.{Row}
 use Rattle.text.specs.Text.{line, row-keys, values, rowBy, linesText, rowText, ValuesFit, lineGood, lineValue, lineRest, valuesAt, behindLines, wrongLine, rowAt}
@@ -74,6 +74,11 @@ lines-found (k ∷ ks) (v ∷ vs) rest e f =
     let all = lines-found ks vs rest (omega arith) (f .1) in
     rw append-assoc (record { right = (one .0, rw (one .2) (all .right)); says = rw (one .1, one .2, all .says); past = rw (one .2) (all .past) })
 
+-- each key of a row has its value, and the values of a row make that row
+pub row-values : (r : Row) → (length (values r) ≡ length row-keys) × (rowBy (values r) ≡ r)
+unfolding row-keys
+row-values r = (refl, refl)
+
 -- so many values as a row has keys are the values of the row that they make
 pub values-back : (vs : List ℕ) → length vs ≡ length row-keys → values (rowBy vs) ≡ vs
 unfolding row-keys
@@ -95,7 +100,7 @@ pub record RowFound (r : Row) (rest text : List ℕ) : Type 0 where
   pub past : behindLines row-keys text ≡ rest
 
 pub row-found : (r : Row) (rest : List ℕ) → ValuesFit (values r) → RowFound r rest (rowText r ++ rest)
-unfolding rowText rowAt row-keys
+unfolding rowText rowAt
 row-found r rest f =
-    let all = lines-found row-keys (values r) rest refl f in
-    record { right = all .right; row = ap rowBy (all .says); past = all .past }
+    let all = lines-found row-keys (values r) rest (row-values r .0) f in
+    record { right = all .right; row = ap rowBy (all .says) ∙ row-values r .1; past = all .past }

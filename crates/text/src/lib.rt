@@ -40,7 +40,11 @@ pub enum Writing {
 pub const ROW_LINES: usize = 3;
 
 // The keys of a row's lines, in their order: src=, dst=, due=.
-const ROW_KEYS: [[u8; 4]; 3] = [[115, 114, 99, 61], [100, 115, 116, 61], [100, 117, 101, 61]];
+const ROW_KEYS: [[u8; 4]; ROW_LINES] = [
+    [115, 114, 99, 61],
+    [100, 115, 116, 61],
+    [100, 117, 101, 61],
+];
 
 // The key of line j of a row, counted from 0.
 pub fn row_key(j: usize) -> [u8; 4]

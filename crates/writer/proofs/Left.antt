@@ -4,7 +4,7 @@
 --     rows-most                  how many bytes are enough
 --     Summed, Laid               the bytes of j lines of a row are counted; they stand at their place
 -- Assumes nothing.
-use mathlib.Core.Path.{_≡_, refl, _∙_, ap, sym}
+use mathlib.Core.Path.{_≡_, refl, _∙_, ap}
 use mathlib.Core.List.{List, [], _++_}
 use Prim.Native.Nat.{ℕ, _+_, _*_, _≤_, _<_}
 use native.Mathlib.Omega.{arith}

@@ -4,8 +4,9 @@ use Prim.Native.Nat.{_-_}
 use native.Mathlib.Omega.{arith}
 use borrow.Author.Needs.{needs}
 use Rattle.text.specs.Text.{row-keys}
-use Rattle.reader.proofs.Rows.{row-lines}
-use Rattle.reader.proofs.Loading.{Loaded, row-broken, row-whole, none-loaded, more-loaded, stopped-at, left-over, all-loaded}
+use Rattle.lines.proofs.Rows.{row-lines}
+use Rattle.lines.proofs.Passed.{row-broken, row-whole}
+use Rattle.reader.proofs.Loading.{Loaded, none-loaded, more-loaded, stopped-at, left-over, all-loaded}
 use Rattle.reader.proofs.read_rows.Statement.{statement}
 use Rattle.reader.proofs.read_rows.Tie as tie
 

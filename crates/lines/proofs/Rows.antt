@@ -1,12 +1,13 @@
 -- The lines of some keys, read one by one, as `row_at` reads those of a row.
---     right-all, broken-on      all lines are right, or the first wrong one is known
---     Reached                   j lines are read, and what is said of all is said of the rest
---     none-reached, more-reached, stopped, row-whole   its laws
+--     right-all, broken-on                      all lines are right, or the first wrong one is known
+--     Reached                                   j lines are read, and what is said of all is said of the rest
+--     none-reached, more-reached                its laws
+--     answers-broken, answers-whole             the two answers of `row_at`
 -- Assumes nothing.
 use mathlib.Core.Path.{_≡_, refl, _∙_, ap, sym}
 use mathlib.Core.Bool.{Bool, true, false, cond}
 use mathlib.Core.List.{List, [], _∷_, _++_, append-nil}
-use Prim.Native.Nat.{ℕ, zero, suc, _+_, _-_, _≤_, _<_}
+use Prim.Native.Nat.{ℕ, suc, _+_, _-_, _≤_, _<_}
 use native.Mathlib.Numerals.{add-one}
 use native.Mathlib.Omega.{arith}
 use borrow.Author.Tests.{lt-ltb, le-ltb}
@@ -14,9 +15,9 @@ use lib.ListN.{length, getD, set, take, drop, length-set, length-drop, length-ap
 use lib.Seq.{drop-cons, take-suc-set, take-all, append-snoc}
 use Rattle.text.specs.Text.{line-feed, row-keys, rowBy, rowText, lineGood, lineRest, valuesAt, behindLines, wrongLine, rowAt}
 use Rattle.text.proofs.RowLaws.{Right, row-stands}
 use Rattle.lines.proofs.Seen.{Seen}
-use Rattle.reader.specs.declared.RowSeen.the-variants.{Whole, Broken}
-use Rattle.reader.specs.Steps.{rightLines, rowSeen}
+use Rattle.lines.specs.declared.RowSeen.the-variants.{Whole, Broken}
+use Rattle.lines.specs.Items.{rightLines, rowSeen}
 
 -- A row has at least one line, and at most sixteen.
 pub row-lines : (1 ≤ length row-keys) × (length row-keys ≤ 16)
@@ -95,13 +96,13 @@ module _ {keys : List (List ℕ)} {text : List ℕ} {at : ℕ} {vs : List ℕ} {
     all-said = k .said ∙ rw (no-keys, append-nil) (take-all j vs (omega (arith, k .long)))
 
 module _ {text : List ℕ} {at : ℕ} {vs : List ℕ} {next j : ℕ} (k : Reached row-keys text at vs next j) where
-  pub row-broken : j < length row-keys → lineGood (getD row-keys j []) (drop next text) ≡ false → Broken j ≡ rowSeen text at
+  pub answers-broken : j < length row-keys → lineGood (getD row-keys j []) (drop next text) ≡ false → Broken j ≡ rowSeen text at
   unfolding rowSeen
-  row-broken more e = rw (stopped k more e, lt-ltb j (length row-keys) more)
+  answers-broken more e = rw (stopped k more e, lt-ltb j (length row-keys) more)
 
-  pub row-whole : length row-keys ≤ j → at ≤ length text → Whole (rowBy vs) next ≡ rowSeen text at
+  pub answers-whole : length row-keys ≤ j → at ≤ length text → Whole (rowBy vs) next ≡ rowSeen text at
   unfolding rowSeen rowAt
-  row-whole done h =
+  answers-whole done h =
       let from = drop at text in
       let right = right-all row-keys from (all-right k done) in
       let row : rowBy vs ≡ rowAt from = ap rowBy (sym (all-said k done)) in

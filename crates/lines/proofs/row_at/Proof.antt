@@ -1,4 +1,4 @@
--- `reader::row_at` meets its contract: as long as the lines passed are right, what is said of all is said of the rest.
+-- `lines::row_at` meets its contract: as long as the lines passed are right, what is said of all is said of the rest.
 -- Assumes nothing.
 use mathlib.Core.Path.{_∙_, ap}
 use mathlib.Core.List.{List, []}
@@ -7,12 +7,12 @@ use borrow.Author.Needs.{needs}
 use lib.ListN.{length, getD}
 use Rattle.table.specs.declared.Row.{Row}
 use Rattle.text.specs.Text.{line-feed, row-keys}
 use Rattle.lines.specs.Items.{lineSeen}
-use Rattle.reader.specs.declared.RowSeen.the-variants.{Whole}
+use Rattle.lines.specs.declared.RowSeen.the-variants.{Whole}
 use Rattle.lines.proofs.Seen.{not-seen, seen-item}
-use Rattle.reader.proofs.Rows.{Reached, none-reached, more-reached, row-broken, row-whole}
-use Rattle.reader.proofs.row_at.Statement.{statement}
-use Rattle.reader.proofs.row_at.Tie as tie
+use Rattle.lines.proofs.Rows.{Reached, none-reached, more-reached, answers-broken, answers-whole}
+use Rattle.lines.proofs.row_at.Statement.{statement}
+use Rattle.lines.proofs.row_at.Tie as tie
 
 abbrev Inv-loop : tie.InvT-loop
 Inv-loop text at values₀ next₀ j₀ values next j = Reached row-keys text at values next j
@@ -51,7 +51,7 @@ returns c =
     let key = c .before .before .before .before .row-key in
     let l = c .before .before .line-at in
     let seen = l .ensures ∙ ap (λ (b : List ℕ). lineSeen b text (k .next)) (key .ensures) in
-    row-broken (k .inv) (search needs) (not-seen (getD row-keys (k .j) []) line-feed text (k .next) (l .result) seen (c .enum-told .given .1))
+    answers-broken (k .inv) (search needs) (not-seen (getD row-keys (k .j) []) line-feed text (k .next) (l .result) seen (c .enum-told .given .1))
 
 mul-values : tie.Need-mul-values Inv-loop μ-loop
 mul-values c = search needs
@@ -84,7 +84,7 @@ returns-2 : tie.Need-returns-2 Inv-loop μ-loop
 unfolding row-keys
 returns-2 c =
     let k = c .before .before .loop in
-    ap (λ (r : Row). Whole r (k .next)) (c .row-by .ensures) ∙ row-whole (k .inv) (search needs) (c .before .before .before .before .pre)
+    ap (λ (r : Row). Whole r (k .next)) (c .row-by .ensures) ∙ answers-whole (k .inv) (search needs) (c .before .before .before .before .pre)
 
 pub row-at-spec : {M : Type 1} → statement M
 row-at-spec =
