@@ -29,11 +29,13 @@ unfolding rightLines
 right-all [] text h = tt
 right-all (k ∷ ks) text h = go (lineGood k text) refl h (right-all ks (lineRest k text))
   where
-    go : (b : Bool) → lineGood k text ≡ b → suc (length ks) ≤ cond b (suc (rightLines ks (lineRest k text))) 0 → (length ks ≤ rightLines ks (lineRest k text) → Right ks (lineRest k text)) → Right (k ∷ ks) text
+    go : (b : Bool) → lineGood k text ≡ b → suc (length ks) ≤ cond b (suc (rightLines ks (lineRest k text))) 0
+        → (length ks ≤ rightLines ks (lineRest k text) → Right ks (lineRest k text)) → Right (k ∷ ks) text
     go true e h rec = (e, rec (omega arith))
     go false e h rec = absurd (omega arith)
 
-pub broken-on : (keys more : List (List ℕ)) (text : List ℕ) (l : ℕ) → rightLines keys text < length keys → wrongLine (keys ++ more) text l ≡ l + rightLines keys text
+pub broken-on : (keys more : List (List ℕ)) (text : List ℕ) (l : ℕ) → rightLines keys text < length keys
+    → wrongLine (keys ++ more) text l ≡ l + rightLines keys text
 unfolding rightLines wrongLine
 broken-on [] more text l h = absurd (omega arith)
 broken-on (k ∷ ks) more text l h = go (lineGood k text) h (broken-on ks more (lineRest k text) (suc l))
@@ -41,7 +43,9 @@ broken-on (k ∷ ks) more text l h = go (lineGood k text) h (broken-on ks more (
     rest : ℕ
     rest = rightLines ks (lineRest k text)
 
-    go : (b : Bool) → cond b (suc rest) 0 < suc (length ks) → (rest < length ks → wrongLine (ks ++ more) (lineRest k text) (suc l) ≡ suc l + rest) → cond b (wrongLine (ks ++ more) (lineRest k text) (suc l)) l ≡ l + cond b (suc rest) 0
+    go : (b : Bool) → cond b (suc rest) 0 < suc (length ks)
+        → (rest < length ks → wrongLine (ks ++ more) (lineRest k text) (suc l) ≡ suc l + rest)
+        → cond b (wrongLine (ks ++ more) (lineRest k text) (suc l)) l ≡ l + cond b (suc rest) 0
     go true h rec = rec (omega arith) ∙ omega arith
     go false h rec = omega arith
 
@@ -54,8 +58,10 @@ pub record Reached (keys : List (List ℕ)) (text : List ℕ) (at : ℕ) (vs : L
   pub past : behindLines keys (drop at text) ≡ behindLines (drop j keys) (drop next text)
   pub said : valuesAt keys (drop at text) ≡ take j vs ++ valuesAt (drop j keys) (drop next text)
 
-pub none-reached : (keys : List (List ℕ)) (text : List ℕ) (at : ℕ) (vs : List ℕ) → at ≤ length text → length vs ≡ length keys → Reached keys text at vs at 0
-none-reached keys text at vs h e = record { few = omega arith; inside = h; long = e; counted = omega arith; past = refl; said = refl }
+pub none-reached : (keys : List (List ℕ)) (text : List ℕ) (at : ℕ) (vs : List ℕ) → at ≤ length text
+    → length vs ≡ length keys → Reached keys text at vs at 0
+none-reached keys text at vs h e =
+    record { few = omega arith; inside = h; long = e; counted = omega arith; past = refl; said = refl }
 
 module _ {keys : List (List ℕ)} {text : List ℕ} {at : ℕ} {vs : List ℕ} {next j : ℕ} (k : Reached keys text at vs next j) where
   module _ (more : j < length keys) where
@@ -66,17 +72,19 @@ module _ {keys : List (List ℕ)} {text : List ℕ} {at : ℕ} {vs : List ℕ} {
     unfolding rightLines
     stopped e = k .counted ∙ rw (key-next, e) (omega arith)
 
-    pub more-reached : (v end : ℕ) → Seen (getD keys j []) line-feed text next v end → Reached keys text at (set vs j v) end (j + 1)
+    pub more-reached : (v end : ℕ) → Seen (getD keys j []) line-feed text next v end
+        → Reached keys text at (set vs j v) end (j + 1)
     unfolding rightLines behindLines valuesAt
     more-reached v end s =
         let front : take (j + 1) (set vs j v) ≡ take j vs ++ (v ∷ []) = rw add-one (take-suc-set vs j v (omega (arith, k .long))) in
+        let rest = valuesAt (drop (j + 1) keys) (drop end text) in
         record {
           few = omega arith;
           inside = s .inside;
           long = length-set vs j v ∙ k .long;
           counted = k .counted ∙ rw (key-next, s .good, ← s .rest) (omega arith);
           past = k .past ∙ rw (key-next, s .rest);
-          said = k .said ∙ rw (key-next, ← s .rest, ← s .value, front) (sym (append-snoc (take j vs) v (valuesAt (drop (j + 1) keys) (drop end text))));
+          said = k .said ∙ rw (key-next, ← s .rest, ← s .value, front) (sym (append-snoc (take j vs) v rest));
         }
 
   module _ (done : length keys ≤ j) where
@@ -96,7 +104,8 @@ module _ {keys : List (List ℕ)} {text : List ℕ} {at : ℕ} {vs : List ℕ} {
     all-said = k .said ∙ rw (no-keys, append-nil) (take-all j vs (omega (arith, k .long)))
 
 module _ {text : List ℕ} {at : ℕ} {vs : List ℕ} {next j : ℕ} (k : Reached row-keys text at vs next j) where
-  pub answers-broken : j < length row-keys → lineGood (getD row-keys j []) (drop next text) ≡ false → Broken j ≡ rowSeen text at
+  pub answers-broken : j < length row-keys → lineGood (getD row-keys j []) (drop next text) ≡ false
+      → Broken j ≡ rowSeen text at
   unfolding rowSeen
   answers-broken more e = rw (stopped k more e, lt-ltb j (length row-keys) more)
 
@@ -106,7 +115,7 @@ module _ {text : List ℕ} {at : ℕ} {vs : List ℕ} {next j : ℕ} (k : Reache
       let from = drop at text in
       let right = right-all row-keys from (all-right k done) in
       let row : rowBy vs ≡ rowAt from = ap rowBy (sym (all-said k done)) in
-      let stands : length from ≡ length (rowText (rowAt from)) + length (behindLines row-keys from) = ap length (row-stands from right) ∙ length-append (rowText (rowAt from)) (behindLines row-keys from) in
+      let stands = ap length (row-stands from right) ∙ length-append (rowText (rowAt from)) (behindLines row-keys from) in
       let rest : length (behindLines row-keys from) ≡ length text - next = ap length (all-past k done) ∙ length-drop next text in
-      let place : next ≡ at + length (rowText (rowAt from)) = omega (arith, length-drop at text, k .inside) in
+      let place : next ≡ at + length (rowText (rowAt from)) = omega (arith, stands, length-drop at text, k .inside) in
       cc (row, place, le-ltb (rightLines row-keys from) (length row-keys) (all-right k done))

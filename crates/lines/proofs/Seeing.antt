@@ -45,17 +45,20 @@ module _ (key : List ℕ) (mark : ℕ) (text : List ℕ) (at : ℕ) where
   too-great h = wrong (rw (lt-leb (extended 0 figures) 65535 h))
 
   -- a numeral and a mark that stand there are the digits that stand there
-  seen-digits : isDigit mark ≡ false → starts (numeral (extended 0 figures) ++ (mark ∷ [])) here ≡ true → figures ≡ numeral (extended 0 figures)
+  seen-digits : isDigit mark ≡ false → starts (numeral (extended 0 figures) ++ (mark ∷ [])) here ≡ true
+      → figures ≡ numeral (extended 0 figures)
   seen-digits no-digit e =
       let v = extended 0 figures in
       let so : here ≡ numeral v ++ (mark ∷ drop (length (numeral v ++ (mark ∷ []))) here) = starts-true (numeral v ++ (mark ∷ [])) here e ∙ simp append-assoc in
       ap (digitsAt 5) so ∙ digits-read 5 (numeral v) mark (drop (length (numeral v ++ (mark ∷ []))) here) no-digit (numeral-digits v) (rw (numeral-length v) (width-most v))
 
-  pub not-canonical : isDigit mark ≡ false → (length figures ≡ width (extended 0 figures) → ⊥) → Wrong ≡ itemSeen key mark text at
+  pub not-canonical : isDigit mark ≡ false → (length figures ≡ width (extended 0 figures) → ⊥)
+      → Wrong ≡ itemSeen key mark text at
   unfolding itemGood itemValue
   not-canonical no-digit d = go (starts (numeral (extended 0 figures) ++ (mark ∷ [])) here) refl
     where
-      go : (b : Bool) → starts (numeral (extended 0 figures) ++ (mark ∷ [])) here ≡ b → Wrong ≡ itemSeen key mark text at
+      go : (b : Bool) → starts (numeral (extended 0 figures) ++ (mark ∷ [])) here ≡ b
+          → Wrong ≡ itemSeen key mark text at
       go true e = absurd (d (ap length (seen-digits no-digit e) ∙ numeral-length (extended 0 figures)))
       go false e = wrong (rw (parted, e, and-false, and-false))
 
@@ -81,19 +84,22 @@ module _ (key : List ℕ) (mark : ℕ) (text : List ℕ) (at : ℕ) where
       unfolding itemGood itemValue starts
       other-end d = wrong (rw (parted, judged, place, drop-cons text next 0 inside, ne-eqb mark (getD text next 0) (λ e. d (sym e)), and-false, and-false))
 
-      is-good : starts key from ≡ true → extended 0 figures ≤ 65535 → getD text next 0 ≡ mark → itemGood key mark from ≡ true
+      is-good : starts key from ≡ true → extended 0 figures ≤ 65535 → getD text next 0 ≡ mark
+          → itemGood key mark from ≡ true
       unfolding itemGood itemValue starts
       is-good e h f =
           rw (le-leb (extended 0 figures) 65535 h, parted, e, judged, place, drop-cons text next 0 inside, f, eq-eqb mark mark refl)
 
-      pub good-line : starts key from ≡ true → extended 0 figures ≤ 65535 → getD text next 0 ≡ mark → Good (extended 0 figures) (next + 1) ≡ itemSeen key mark text at
+      pub good-line : starts key from ≡ true → extended 0 figures ≤ 65535 → getD text next 0 ≡ mark
+          → Good (extended 0 figures) (next + 1) ≡ itemSeen key mark text at
       unfolding itemSeen itemValue
       good-line e h f =
           let past : next + 1 ≡ at + length (item key (extended 0 figures) mark) = omega (arith, item-length key (extended 0 figures) mark, canonical) in
           rw (is-good e h f, past)
 
 -- The same of what `key_at`, `figures_at` and `width_of` answer.
-pub key-inside : (key text : List ℕ) (at : ℕ) → at ≤ length text → starts key (drop at text) ≡ true → at + length key ≤ length text
+pub key-inside : (key text : List ℕ) (at : ℕ) → at ≤ length text → starts key (drop at text) ≡ true
+    → at + length key ≤ length text
 key-inside key text at h e =
     let so : length (drop at text) ≡ length key + length (drop (length key) (drop at text)) = ap length (starts-true key (drop at text) e) ∙ length-append key (drop (length key) (drop at text)) in
     omega (arith, length-drop at text)
@@ -132,6 +138,8 @@ module _ (key : List ℕ) (mark : ℕ) (text : List ℕ) (at : ℕ) (f : Figures
         pub seen-other-end : (getD text (at + length key + f .count) 0 ≡ mark → ⊥) → Wrong ≡ itemSeen key mark text at
         seen-other-end d = other-end key mark text at canonical (rw count-is at inside) (rw count-is at d)
 
-        pub seen-good : starts key (drop at text) ≡ true → f .value ≤ 65535 → getD text (at + length key + f .count) 0 ≡ mark → Good (f .value) (at + length key + f .count + 1) ≡ itemSeen key mark text at
+        pub seen-good : starts key (drop at text) ≡ true → f .value ≤ 65535
+            → getD text (at + length key + f .count) 0 ≡ mark
+            → Good (f .value) (at + length key + f .count + 1) ≡ itemSeen key mark text at
         seen-good e h b =
             rw (value-is, count-is) (good-line key mark text at canonical (rw count-is at inside) e (rw value-is at h) (rw count-is at b))

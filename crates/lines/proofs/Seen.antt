@@ -55,5 +55,10 @@ module _ (key : List ℕ) (mark : ℕ) (text : List ℕ) (at : ℕ) (l : Item) (
       go true e =
           let same : Good v n ≡ Good (itemValue key from) (at + length here) = sym g ∙ good-is e in
           let past : n ≡ at + length here = cc in
-          let stands : length from ≡ length here + length (itemRest key mark from) = ap length (item-stands key mark from e .1) ∙ length-append here (itemRest key mark from) in
-          record { good = e; value = cc; inside = omega (arith, length-drop at text); rest = rw past (sym (drop-drop (length here) at text)) }
+          let long = ap length (item-stands key mark from e .1) ∙ length-append here (itemRest key mark from) in
+          record {
+            good = e;
+            value = cc;
+            inside = omega (arith, long, length-drop at text);
+            rest = rw past (sym (drop-drop (length here) at text));
+          }

@@ -17,7 +17,8 @@ use Rattle.reader.specs.Steps.{RowsTaken, TextRead}
 use Rattle.lines.proofs.Seen.{Seen}
 
 -- a reading that is refused
-pub refused-read : (text : List ℕ) (lent : ℕ) (src dst due : List ℕ) (answer : Reading) (r : Refusal) → answer ≡ Refused r → Refused r ≡ readingOf text lent → TextRead text lent answer src dst due
+pub refused-read : (text : List ℕ) (lent : ℕ) (src dst due : List ℕ) (answer : Reading) (r : Refusal)
+    → answer ≡ Refused r → Refused r ≡ readingOf text lent → TextRead text lent answer src dst due
 refused-read text lent src dst due answer r e h = record { judged = e ∙ h; rows = λ g f. absurd (refused-not r g (sym e ∙ f)) }
 
 module _ (text : List ℕ) (lent : ℕ) where

@@ -41,9 +41,10 @@ rowsAt-suc zero text = refl
 rowsAt-suc (suc n) text = ap {B = List Row} (λ l. rowAt text ∷ l) (rowsAt-suc n (behindLines row-keys text))
 
 -- one more entry of a column
-stored : (f : Row → ℕ) (col : List ℕ) (i : ℕ) (text : List ℕ) (v : ℕ) → i < 512 → v ≡ f (rowAt (pastRows i text)) → col ≡ column (map f (rowsAt i text)) → set col i v ≡ column (map f (rowsAt (i + 1) text))
+stored : (f : Row → ℕ) (col : List ℕ) (i : ℕ) (text : List ℕ) (v : ℕ) → i < 512 → v ≡ f (rowAt (pastRows i text))
+    → col ≡ column (map f (rowsAt i text)) → set col i v ≡ column (map f (rowsAt (i + 1) text))
 stored f col i text v h e so =
-    let one : rowsAt (i + 1) text ≡ rowsAt i text ++ (rowAt (pastRows i text) ∷ []) = ap (λ (k : ℕ). rowsAt k text) (add-one i) ∙ rowsAt-suc i text in
+    let one = ap (λ (k : ℕ). rowsAt k text) (add-one i) ∙ rowsAt-suc i text in
     let all : map f (rowsAt i text) ++ (v ∷ []) ≡ map f (rowsAt (i + 1) text) =
     ap (λ (x : ℕ). map f (rowsAt i text) ++ (x ∷ [])) e ∙ sym (ap (map f) one ∙ map-last f (rowsAt i text) (rowAt (pastRows i text))) in
     ap (λ (l : List ℕ). set l i v) so ∙ column-more (map f (rowsAt i text)) i v (length-map (rowsAt i text) f ∙ rowsAt-length i text) h ∙ ap column all
@@ -59,7 +60,9 @@ pub record Loaded (text : List ℕ) (from rows : ℕ) (src dst due : List ℕ) (
   pub dsts : dst ≡ column (destinations (rowsAt i (drop from text)))
   pub due-slots : due ≡ column (dues (rowsAt i (drop from text)))
 
-pub none-loaded : (text : List ℕ) (from rows : ℕ) (src dst due : List ℕ) → from ≤ length text → src ≡ replicate {A = ℕ} 512 0 → dst ≡ replicate {A = ℕ} 512 0 → due ≡ replicate {A = ℕ} 512 0 → Loaded text from rows src dst due from 3 0
+pub none-loaded : (text : List ℕ) (from rows : ℕ) (src dst due : List ℕ) → from ≤ length text
+    → src ≡ replicate {A = ℕ} 512 0 → dst ≡ replicate {A = ℕ} 512 0 → due ≡ replicate {A = ℕ} 512 0
+    → Loaded text from rows src dst due from 3 0
 unfolding pastRows rowsAt sources destinations dues
 none-loaded text from rows src dst due h a b d =
     let all : rows - 0 ≡ rows = omega arith in
@@ -77,11 +80,15 @@ none-loaded text from rows src dst due h a b d =
 
 module _ {text : List ℕ} {from rows : ℕ} {src dst due : List ℕ} {at line i : ℕ} (k : Loaded text from rows src dst due at line i) where
   module _ (more : i < rows) where
-    keys-left : rowsKeys (rows - i) ≡ row-keys ++ rowsKeys (rows - (i + 1))
+    abbrev keys-behind : List (List ℕ)
+    keys-behind = rowsKeys (rows - (i + 1))
+
+    keys-left : rowsKeys (rows - i) ≡ row-keys ++ keys-behind
     unfolding rowsKeys
     keys-left = let left : rows - i ≡ suc (rows - (i + 1)) = omega arith in rw left
 
-    pub more-loaded : (r : Row) (n : ℕ) → rows ≤ 512 → Passed text at r n → Loaded text from rows (set src i (r .src)) (set dst i (r .dst)) (set due i (r .due)) n (line + length row-keys) (i + 1)
+    pub more-loaded : (r : Row) (n : ℕ) → rows ≤ 512 → Passed text at r n
+        → Loaded text from rows (set src i (r .src)) (set dst i (r .dst)) (set due i (r .due)) n (line + length row-keys) (i + 1)
     unfolding sources destinations dues
     more-loaded r n few p =
         let here : r ≡ rowAt (pastRows i (drop from text)) = p .row ∙ ap rowAt (k .rest) in
@@ -91,15 +98,16 @@ module _ {text : List ℕ} {from rows : ℕ} {src dst due : List ℕ} {at line i
           some = omega (arith, k .some);
           counted = omega (arith, k .counted, row-lines .1);
           rest = p .rest ∙ ap (behindLines row-keys) (k .rest) ∙ sym (pastRows-more i (drop from text)) ∙ rw (← add-one i);
-          judged = k .judged ∙ rw keys-left (right-on row-keys (rowsKeys (rows - (i + 1))) (drop at text) line (p .right) ∙ rw (p .rest));
+          judged = k .judged ∙ rw keys-left (right-on row-keys keys-behind (drop at text) line (p .right) ∙ rw (p .rest));
           srcs = stored (λ q. q .src) src i (drop from text) (r .src) (omega arith) (ap (λ (q : Row). q .src) here) (k .srcs);
           dsts = stored (λ q. q .dst) dst i (drop from text) (r .dst) (omega arith) (ap (λ (q : Row). q .dst) here) (k .dsts);
           due-slots = stored (λ q. q .due) due i (drop from text) (r .due) (omega arith) (ap (λ (q : Row). q .due) here) (k .due-slots);
         }
 
-    pub stopped-at : (p : ℕ) → (p < length row-keys) × (rightLines row-keys (drop at text) ≡ p) → RowsTaken rows (drop from text) (line + p) src dst due
+    pub stopped-at : (p : ℕ) → (p < length row-keys) × (rightLines row-keys (drop at text) ≡ p)
+        → RowsTaken rows (drop from text) (line + p) src dst due
     stopped-at p b =
-        let stop : wrongLine (row-keys ++ rowsKeys (rows - (i + 1))) (drop at text) line ≡ line + p = broken-on row-keys (rowsKeys (rows - (i + 1))) (drop at text) line (omega (arith, b .0, b .1)) ∙ rw (b .1) in
+        let stop = broken-on row-keys keys-behind (drop at text) line (omega (arith, b .0, b .1)) ∙ ap (λ (n : ℕ). line + n) (b .1) in
         record { judged = sym (k .judged ∙ rw keys-left stop); rows = λ e. absurd (omega (arith, k .some)) }
 
   module _ (done : rows ≤ i) where

@@ -1,3 +1,4 @@
+// Prints what the plan program answers: it reads a text, plans the table, and writes lines of key=value.
 ghost use mathlib.Core.Path.{_≡_};
 ghost use mathlib.Core.Bool.{cond};
 ghost use Prim.Native.Nat.{_+_, _*_, _≤_, _<_};

@@ -31,7 +31,8 @@ unfolding line
 line-length key v = item-length key v line-feed
 
 -- the bytes behind the key
-behind : (key : List ℕ) (v mark : ℕ) (rest : List ℕ) → drop (length key) (item key v mark ++ rest) ≡ numeral v ++ (mark ∷ rest)
+behind : (key : List ℕ) (v mark : ℕ) (rest : List ℕ)
+    → drop (length key) (item key v mark ++ rest) ≡ numeral v ++ (mark ∷ rest)
 behind key v mark rest =
     ap (drop (length key)) (simp append-assoc) ∙ drop-append-seam key (numeral v ++ (mark ∷ rest))
 
@@ -69,7 +70,8 @@ item-stands key mark text e =
     let both = both-hold (leb v greatest-value) (starts (item key v mark) text) e in
     (leb-true v greatest-value (both .0), starts-true (item key v mark) text (both .1))
 
-pub line-stands : (key text : List ℕ) → lineGood key text ≡ true → (lineValue key text ≤ greatest-value) × (text ≡ line key (lineValue key text) ++ lineRest key text)
+pub line-stands : (key text : List ℕ) → lineGood key text ≡ true
+    → (lineValue key text ≤ greatest-value) × (text ≡ line key (lineValue key text) ++ lineRest key text)
 unfolding line
 line-stands key text = item-stands key line-feed text
 
@@ -80,7 +82,8 @@ pub record BeginsItem (key : List ℕ) (mark : ℕ) (text : List ℕ) : Type 0 w
   pub small : value ≤ greatest-value
   pub so : text ≡ item key value mark ++ rest
 
-pub item-iff : (key : List ℕ) (mark : ℕ) (text : List ℕ) → isDigit mark ≡ false → (itemGood key mark text ≡ true) ↔ BeginsItem key mark text
+pub item-iff : (key : List ℕ) (mark : ℕ) (text : List ℕ) → isDigit mark ≡ false
+    → (itemGood key mark text ≡ true) ↔ BeginsItem key mark text
 item-iff key mark text no-digit = (
   λ e. record { value = itemValue key text; rest = itemRest key mark text; small = item-stands key mark text e .0; so = item-stands key mark text e .1 },
   λ b. ap (itemGood key mark) (b .so) ∙ found-good key (b .value) mark (b .rest) no-digit (b .small),

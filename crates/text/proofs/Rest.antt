@@ -2,7 +2,7 @@
 --     enough                    more bytes than the lines of a text of at most 512 rows can take
 --     rest-changes-nothing      a text of so many bytes reads alike, whatever follows it
 --     rest-reads-nothing        and gives the same rows, which are none
--- An item is judged by its key and six bytes, so the lines before a wrong one take no more than theirs, and bytes are left for it.
+-- An item is judged by its key and six bytes: the right lines before a wrong one take no more than theirs, and enough is left for it.
 -- Assumes nothing.
 use mathlib.Core.Path.{_≡_, refl, _∙_, ap, sym}
 use mathlib.Core.Bool.{Bool, true, false, cond, _&&_}
@@ -62,7 +62,8 @@ rest-long key mark text =
     omega (arith, item-most key (itemValue key text) mark, length-drop (length here) text)
 
 -- The lines of some keys, where a byte more than theirs is there.
-wrong-rest : (keys : List (List ℕ)) (text more : List ℕ) (l : ℕ) → bytesOf keys < length text → wrongLine keys (text ++ more) l ≡ wrongLine keys text l
+wrong-rest : (keys : List (List ℕ)) (text more : List ℕ) (l : ℕ) → bytesOf keys < length text
+    → wrongLine keys (text ++ more) l ≡ wrongLine keys text l
 unfolding wrongLine bytesOf
 wrong-rest [] text more l h =
     rw (ne-eqb (length (text ++ more)) 0 (λ e. omega (arith, length-append text more)), ne-eqb (length text) 0 (λ e. omega arith))

@@ -25,7 +25,8 @@ use Rattle.text.proofs.RowLaws.{right-on, none-wrong, row-stands, row-f
 use Rattle.text.proofs.Lengths.{line-most, rows-long}
 
 -- The lines of rows are read as those rows, and nothing is wrong with them.
-rows-back : (rows : List Row) (l : ℕ) → RowsFit rows → (wrongLine (rowsKeys (length rows)) (rowsText rows) l ≡ 0) × (rowsAt (length rows) (rowsText rows) ≡ rows)
+rows-back : (rows : List Row) (l : ℕ) → RowsFit rows
+    → (wrongLine (rowsKeys (length rows)) (rowsText rows) l ≡ 0) × (rowsAt (length rows) (rowsText rows) ≡ rows)
 unfolding rowsText rowsKeys wrongLine rowsAt
 rows-back [] l f = (refl, refl)
 rows-back (r ∷ rs) l f =
@@ -58,7 +59,8 @@ module _ (n : ℕ) (rows : List Row) (lent : ℕ) (fits : TableFits n rows lent)
   read-back = (reading-is, rows-are)
 
 -- Where nothing is wrong with the lines of n rows, they are the lines of the rows that they say, and nothing follows.
-rows-again : (n : ℕ) (text : List ℕ) (l : ℕ) → 0 < l → wrongLine (rowsKeys n) text l ≡ 0 → (text ≡ rowsText (rowsAt n text)) × (length (rowsAt n text) ≡ n) × RowsFit (rowsAt n text)
+rows-again : (n : ℕ) (text : List ℕ) (l : ℕ) → 0 < l → wrongLine (rowsKeys n) text l ≡ 0
+    → (text ≡ rowsText (rowsAt n text)) × (length (rowsAt n text) ≡ n) × RowsFit (rowsAt n text)
 unfolding rowsText rowsKeys wrongLine rowsAt
 rows-again zero [] l h e = (refl, refl, tt)
 rows-again zero (b ∷ bs) l h e = absurd (omega (arith, last e))
@@ -94,7 +96,10 @@ accepted text lent h e =
     found : Header
     found = record { nodes = nodesIn text; rows = rowsIn text }
 
-    go : (a b c d f : Bool) → lineGood nodes-key text ≡ a → lineGood rows-key (lineRest nodes-key text) ≡ b → ltb 512 (rowsIn text) ≡ c → ltb lent (rowsIn text) ≡ d → eqb wrong 0 ≡ f → cond a (cond b (cond c (Refused (refuse 2 0 0)) (cond d (Refused (refuse 21 0 0)) (cond f (Read found) (Refused (refuse 20 wrong 0))))) (Refused (refuse 20 2 0))) (Refused (refuse 20 1 0)) ≡ Read h → Accepted text lent h
+    go : (a b c d f : Bool) → lineGood nodes-key text ≡ a → lineGood rows-key (lineRest nodes-key text) ≡ b
+        → ltb 512 (rowsIn text) ≡ c → ltb lent (rowsIn text) ≡ d → eqb wrong 0 ≡ f
+        → cond a (cond b (cond c (Refused (refuse 2 0 0)) (cond d (Refused (refuse 21 0 0)) (cond f (Read found) (Refused (refuse 20 wrong 0))))) (Refused (refuse 20 2 0))) (Refused (refuse 20 1 0)) ≡ Read h
+        → Accepted text lent h
     go false b c d f p q r s t e = absurd (refused-not _ h e)
     go true false c d f p q r s t e = absurd (refused-not _ h e)
     go true true true d f p q r s t e = absurd (refused-not _ h e)
@@ -152,7 +157,8 @@ read-iff-text text lent = (
   λ t. record { head = record { nodes = t .nodes; rows = length (t .rows) }; so = ap (λ (b : List ℕ). readingOf b lent) (t .so) ∙ read-back (t .nodes) (t .rows) lent (t .fits) .0 },
 )
 
-pub written-again : (text : List ℕ) (lent : ℕ) (h : Header) (area : List ℕ) → readingOf text lent ≡ Read h → length text ≤ length area → areaAfter (h .nodes) (rowsRead text lent) area ≡ text ++ drop (length text) area
+pub written-again : (text : List ℕ) (lent : ℕ) (h : Header) (area : List ℕ) → readingOf text lent ≡ Read h
+    → length text ≤ length area → areaAfter (h .nodes) (rowsRead text lent) area ≡ text ++ drop (length text) area
 unfolding areaAfter
 written-again text lent h area e room =
     rw (← write-back text lent h e, le-ltb 512 (length (rowsRead text lent)) (read-fits text lent h e .few), le-ltb (length area) (length text) room)

@@ -23,19 +23,22 @@ abbrev pub Right : (keys : List (List ℕ)) (text : List ℕ) → Type 0
 Right [] text = Unit {0}
 Right (k ∷ ks) text = (lineGood k text ≡ true) × Right ks (lineRest k text)
 
-pub right-on : (keys more : List (List ℕ)) (text : List ℕ) (l : ℕ) → Right keys text → wrongLine (keys ++ more) text l ≡ wrongLine more (behindLines keys text) (l + length keys)
+pub right-on : (keys more : List (List ℕ)) (text : List ℕ) (l : ℕ) → Right keys text
+    → wrongLine (keys ++ more) text l ≡ wrongLine more (behindLines keys text) (l + length keys)
 unfolding wrongLine behindLines
 right-on [] more text l g = let none : l ≡ l + 0 = omega arith in ap (wrongLine more text) none
 right-on (k ∷ ks) more text l g =
     let next : suc l + length ks ≡ l + suc (length ks) = omega arith in
     rw (g .0) (right-on ks more (lineRest k text) (suc l) (g .1) ∙ ap (wrongLine more (behindLines ks (lineRest k text))) next)
 
-pub none-wrong : (keys more : List (List ℕ)) (text : List ℕ) (l : ℕ) → 0 < l → wrongLine (keys ++ more) text l ≡ 0 → Right keys text
+pub none-wrong : (keys more : List (List ℕ)) (text : List ℕ) (l : ℕ) → 0 < l → wrongLine (keys ++ more) text l ≡ 0
+    → Right keys text
 unfolding wrongLine
 none-wrong [] more text l h e = tt
 none-wrong (k ∷ ks) more text l h e = go (lineGood k text) refl e (none-wrong ks more (lineRest k text) (suc l) (omega arith))
   where
-    go : (b : Bool) → lineGood k text ≡ b → cond b (wrongLine (ks ++ more) (lineRest k text) (suc l)) l ≡ 0 → (wrongLine (ks ++ more) (lineRest k text) (suc l) ≡ 0 → Right ks (lineRest k text)) → Right (k ∷ ks) text
+    go : (b : Bool) → lineGood k text ≡ b → cond b (wrongLine (ks ++ more) (lineRest k text) (suc l)) l ≡ 0
+        → (wrongLine (ks ++ more) (lineRest k text) (suc l) ≡ 0 → Right ks (lineRest k text)) → Right (k ∷ ks) text
     go true s e rec = (s, rec e)
     go false s e rec = absurd (omega arith)
 
@@ -44,13 +47,15 @@ unfolding valuesAt
 values-many [] text = refl
 values-many (k ∷ ks) text = ap suc (values-many ks (lineRest k text))
 
-pub lines-stand : (keys : List (List ℕ)) (text : List ℕ) → Right keys text → text ≡ linesText keys (valuesAt keys text) ++ behindLines keys text
+pub lines-stand : (keys : List (List ℕ)) (text : List ℕ) → Right keys text
+    → text ≡ linesText keys (valuesAt keys text) ++ behindLines keys text
 unfolding linesText valuesAt behindLines
 lines-stand [] text g = refl
 lines-stand (k ∷ ks) text g =
     let here = line k (lineValue k text) in
     let rest = lineRest k text in
-    line-stands k text (g .0) .1 ∙ ap (λ (t : List ℕ). here ++ t) (lines-stand ks rest (g .1)) ∙ sym (append-assoc here (linesText ks (valuesAt ks rest)) (behindLines ks rest))
+    let more = linesText ks (valuesAt ks rest) in
+    line-stands k text (g .0) .1 ∙ ap (λ (t : List ℕ). here ++ t) (lines-stand ks rest (g .1)) ∙ sym (append-assoc here more (behindLines ks rest))
 
 pub lines-fit : (keys : List (List ℕ)) (text : List ℕ) → Right keys text → ValuesFit (valuesAt keys text)
 unfolding valuesAt
@@ -63,7 +68,8 @@ pub record Found (keys : List (List ℕ)) (vs rest text : List ℕ) : Type 0 whe
   pub says : valuesAt keys text ≡ vs
   pub past : behindLines keys text ≡ rest
 
-pub lines-found : (keys : List (List ℕ)) (vs rest : List ℕ) → length vs ≡ length keys → ValuesFit vs → Found keys vs rest (linesText keys vs ++ rest)
+pub lines-found : (keys : List (List ℕ)) (vs rest : List ℕ) → length vs ≡ length keys → ValuesFit vs
+    → Found keys vs rest (linesText keys vs ++ rest)
 unfolding linesText valuesAt behindLines
 lines-found [] [] rest e f = record { right = tt; says = refl; past = refl }
 lines-found [] (v ∷ vs) rest e f = absurd (omega arith)
@@ -72,7 +78,12 @@ lines-found (k ∷ ks) (v ∷ vs) rest e f =
     let on = linesText ks vs ++ rest in
     let one = line-found k v on (f .0) in
     let all = lines-found ks vs rest (omega arith) (f .1) in
-    rw append-assoc (record { right = (one .0, rw (one .2) (all .right)); says = rw (one .1, one .2, all .says); past = rw (one .2) (all .past) })
+    rw append-assoc
+    (record {
+      right = (one .0, rw (one .2) (all .right));
+      says = rw (one .1, one .2, all .says);
+      past = rw (one .2) (all .past);
+    })
 
 -- each key of a row has its value, and the values of a row make that row
 pub row-values : (r : Row) → (length (values r) ≡ length row-keys) × (rowBy (values r) ≡ r)
@@ -87,7 +98,8 @@ values-back vs e = build-of (length row-keys) 0 vs e
 pub row-stands : (text : List ℕ) → Right row-keys text → text ≡ rowText (rowAt text) ++ behindLines row-keys text
 unfolding rowText rowAt
 row-stands text g =
-    lines-stand row-keys text g ∙ ap (λ (vs : List ℕ). linesText row-keys vs ++ behindLines row-keys text) (sym (values-back (valuesAt row-keys text) (values-many row-keys text)))
+    let are = sym (values-back (valuesAt row-keys text) (values-many row-keys text)) in
+    lines-stand row-keys text g ∙ ap (λ (vs : List ℕ). linesText row-keys vs ++ behindLines row-keys text) are
 
 pub row-fits : (text : List ℕ) → Right row-keys text → ValuesFit (values (rowAt text))
 unfolding rowAt

@@ -21,7 +21,8 @@ use Rattle.text.specs.Steps.{pasted, Put, Room}
 use Rattle.text.proofs.Lengths.{bytesOf, row-bytes, lines-most, rows-long}
 use Rattle.text.proofs.Putting.{Putting, begun, fits, put-on, one-put, all-put}
 
-pub lines-next : (keys : List (List ℕ)) (vs : List ℕ) (j : ℕ) → length vs ≡ length keys → j < length keys → linesText (drop j keys) (drop j vs) ≡ line (getD keys j []) (getD vs j 0) ++ linesText (drop (j + 1) keys) (drop (j + 1) vs)
+pub lines-next : (keys : List (List ℕ)) (vs : List ℕ) (j : ℕ) → length vs ≡ length keys → j < length keys
+    → linesText (drop j keys) (drop j vs) ≡ line (getD keys j []) (getD vs j 0) ++ linesText (drop (j + 1) keys) (drop (j + 1) vs)
 unfolding linesText
 lines-next keys vs j e h = rw (add-one, drop-cons keys j [] h, drop-cons vs j 0 (omega arith))
 
@@ -34,13 +35,18 @@ unfolding row-keys bytesOf
 lines-small vs = lines-most row-keys vs
 
 module _ (rows : ℕ) (c : Columns) where
-  pub rows-next : (i : ℕ) → i < rows → rowsText (drop i (listed rows c)) ≡ rowText (rowOf c i) ++ rowsText (drop (i + 1) (listed rows c))
+  pub rows-next : (i : ℕ) → i < rows
+      → rowsText (drop i (listed rows c)) ≡ rowText (rowOf c i) ++ rowsText (drop (i + 1) (listed rows c))
   unfolding rowsText listed
-  rows-next i h = rw (add-one, drop-cons (listed rows c) i none (omega (arith, length-listed rows c)), getD-build rows (rowOf c) i none h)
+  rows-next i h =
+      let inside : i < length (listed rows c) = omega (arith, length-listed rows c) in
+      rw (add-one, drop-cons (listed rows c) i none inside, getD-build rows (rowOf c) i none h)
 
   pub no-rows : (i : ℕ) → rows ≤ i → rowsText (drop i (listed rows c)) ≡ []
   unfolding rowsText
-  no-rows i h = let past : length (listed rows c) ≤ i = omega (arith, length-listed rows c) in rw (drop-of-length-le (listed rows c) past)
+  no-rows i h =
+      let past : length (listed rows c) ≤ i = omega (arith, length-listed rows c) in
+      rw (drop-of-length-le (listed rows c) past)
 
   pub rows-most : length (rowsText (listed rows c)) ≤ row-bytes * rows
   rows-most = omega (arith, rows-long (listed rows c), length-listed rows c)
@@ -55,7 +61,8 @@ pub none-summed : (vs : List ℕ) → length vs ≡ length row-keys → Summed v
 none-summed vs e = record { few = omega arith; long = e; sums = omega arith }
 
 module _ {vs : List ℕ} {sum j : ℕ} (k : Summed vs sum j) where
-  module _ (more : j < length row-keys) (key : List ℕ) (n : ℕ) (of : key ≡ getD row-keys j []) (long : n ≡ length (line key (getD vs j 0))) where
+  module _ (more : j < length row-keys) (key : List ℕ) (n : ℕ) (of : key ≡ getD row-keys j [])
+      (long : n ≡ length (line key (getD vs j 0))) where
     next : sum + n + length (linesText (drop (j + 1) row-keys) (drop (j + 1) vs)) ≡ length (linesText row-keys vs)
     next =
         let piece = line (getD row-keys j []) (getD vs j 0) in
@@ -78,7 +85,8 @@ pub record Laid (area₀ : List ℕ) (at : ℕ) (vs area : List ℕ) (next j : �
   pub long : length vs ≡ length row-keys
   pub putting : Putting area₀ at (linesText row-keys vs) area next (linesText (drop j row-keys) (drop j vs))
 
-pub none-laid : (area₀ : List ℕ) (at : ℕ) (row : Row) (vs : List ℕ) → vs ≡ values row → Room area₀ at (rowText row) → Laid area₀ at vs area₀ at 0
+pub none-laid : (area₀ : List ℕ) (at : ℕ) (row : Row) (vs : List ℕ) → vs ≡ values row → Room area₀ at (rowText row)
+    → Laid area₀ at vs area₀ at 0
 unfolding rowText row-keys
 none-laid area₀ at row vs e room =
     let whole = linesText row-keys vs in
@@ -89,15 +97,19 @@ module _ {area₀ : List ℕ} {at : ℕ} {vs area : List ℕ} {next j : ℕ} (k 
     abbrev piece : List ℕ
     piece = line key (getD vs j 0)
 
-    left-is : linesText (drop j row-keys) (drop j vs) ≡ piece ++ linesText (drop (j + 1) row-keys) (drop (j + 1) vs)
+    abbrev left : List ℕ
+    left = linesText (drop (j + 1) row-keys) (drop (j + 1) vs)
+
+    left-is : linesText (drop j row-keys) (drop j vs) ≡ piece ++ left
     left-is = lines-next row-keys vs j (k .long) more ∙ rw of
 
     pub line-fits : Room area next piece
-    line-fits = fits (k .putting) piece (linesText (drop (j + 1) row-keys) (drop (j + 1) vs)) left-is
+    line-fits = fits (k .putting) piece left left-is
 
-    pub more-laid : (next′ : ℕ) (area′ : List ℕ) → (next′ ≡ next + length piece) × (area′ ≡ pasted area next piece) → Laid area₀ at vs area′ next′ (j + 1)
+    pub more-laid : (next′ : ℕ) (area′ : List ℕ) → (next′ ≡ next + length piece) × (area′ ≡ pasted area next piece)
+        → Laid area₀ at vs area′ next′ (j + 1)
     more-laid next′ area′ p =
-        record { few = omega arith; long = k .long; putting = put-on (k .putting) piece (linesText (drop (j + 1) row-keys) (drop (j + 1) vs)) left-is (one-put p) }
+        record { few = omega arith; long = k .long; putting = put-on (k .putting) piece left left-is (one-put p) }
 
   pub all-laid : (row : Row) → vs ≡ values row → length row-keys ≤ j → Put area₀ at (rowText row) next area
   unfolding rowText

@@ -29,19 +29,31 @@ shared-slice-read-b : tie.Need-shared-slice-read-b Inv-loop μ-loop
 shared-slice-read-b c = omega (arith, c .before .before .before .lesser .ensures)
 
 returns : tie.Need-returns Inv-loop μ-loop
-returns c = below (c .before .before .before .loop .inv) (omega (arith, c .before .before .before .before .lesser .ensures)) (omega (arith, c .before .before .before .before .lesser .ensures)) (c .if1 .taken)
+returns c =
+    let k = c .before .before .before .loop .inv in
+    let most = c .before .before .before .before .lesser .ensures in
+    below k (omega (arith, most)) (omega (arith, most)) (c .if1 .taken)
 
 returns-2 : tie.Need-returns-2 Inv-loop μ-loop
-returns-2 c = above (c .before .before .before .before .loop .inv) (omega (arith, c .before .before .before .before .before .lesser .ensures)) (omega (arith, c .before .before .before .before .before .lesser .ensures)) (c .if2 .taken)
+returns-2 c =
+    let k = c .before .before .before .before .loop .inv in
+    let most = c .before .before .before .before .before .lesser .ensures in
+    above k (omega (arith, most)) (omega (arith, most)) (c .if2 .taken)
 
 mul-value : tie.Need-mul-value Inv-loop μ-loop
-mul-value c = omega (arith, value-fits (c .before .before .before .before .loop .inv) (omega (arith, c .before .before .before .before .before .lesser .ensures)))
+mul-value c =
+    let k = c .before .before .before .before .loop .inv in
+    let most = c .before .before .before .before .before .lesser .ensures in
+    omega (arith, value-fits k (omega (arith, most)))
 
 cast-value : tie.Need-cast-value Inv-loop μ-loop
 cast-value c = search needs
 
 add-value : tie.Need-add-value Inv-loop μ-loop
-add-value c = omega (arith, value-fits (c .before .before .before .before .loop .inv) (omega (arith, c .before .before .before .before .before .lesser .ensures)))
+add-value c =
+    let k = c .before .before .before .before .loop .inv in
+    let most = c .before .before .before .before .before .lesser .ensures in
+    omega (arith, value-fits k (omega (arith, most)))
 
 add-i : tie.Need-add-i Inv-loop μ-loop
 add-i c = search needs
@@ -50,7 +62,10 @@ loop-less : tie.Need-loop-less Inv-loop μ-loop
 loop-less c = omega (arith, c .before .before .before .before .before .lesser .ensures)
 
 loop-again : tie.Need-loop-again Inv-loop μ-loop
-loop-again c = further (c .before .before .before .before .loop .inv) (omega (arith, c .before .before .before .before .before .lesser .ensures)) (omega (arith, c .before .before .before .before .before .lesser .ensures)) (search needs) (search needs)
+loop-again c =
+    let k = c .before .before .before .before .loop .inv in
+    let most = c .before .before .before .before .before .lesser .ensures in
+    further k (omega (arith, most)) (omega (arith, most)) (search needs) (search needs)
 
 returns-3 : tie.Need-returns-3 Inv-loop μ-loop
 returns-3 c = ended (c .before .loop .inv) (omega (arith, c .before .before .lesser .ensures))

@@ -51,7 +51,8 @@ returns c =
     let key = c .before .before .before .before .row-key in
     let l = c .before .before .line-at in
     let seen = l .ensures ∙ ap (λ (b : List ℕ). lineSeen b text (k .next)) (key .ensures) in
-    answers-broken (k .inv) (search needs) (not-seen (getD row-keys (k .j) []) line-feed text (k .next) (l .result) seen (c .enum-told .given .1))
+    let wrong = not-seen (getD row-keys (k .j) []) line-feed text (k .next) (l .result) seen (c .enum-told .given .1) in
+    answers-broken (k .inv) (search needs) wrong
 
 mul-values : tie.Need-mul-values Inv-loop μ-loop
 mul-values c = search needs
@@ -75,7 +76,10 @@ loop-again c =
     let l = c .before .before .before .line-at in
     let g = c .before .v .given in
     let seen = l .ensures ∙ ap (λ (b : List ℕ). lineSeen b text (k .next)) (key .ensures) in
-    more-reached (k .inv) (search needs) (g .0 .0) (g .0 .1 .0) (seen-item (getD row-keys (k .j) []) line-feed text (k .next) (l .result) seen (g .0 .0) (g .0 .1 .0) (k .inv .inside) (g .1))
+    let found = seen-item (getD row-keys (k .j) []) line-feed text (k .next) (l .result) seen in
+    let v = g .0 .0 in
+    let end = g .0 .1 .0 in
+    more-reached (k .inv) (search needs) v end (found v end (k .inv .inside) (g .1))
 
 row-by-requires : tie.Need-row-by-requires Inv-loop μ-loop
 row-by-requires c κs = search needs
@@ -84,7 +88,8 @@ returns-2 : tie.Need-returns-2 Inv-loop μ-loop
 unfolding row-keys
 returns-2 c =
     let k = c .before .before .loop in
-    ap (λ (r : Row). Whole r (k .next)) (c .row-by .ensures) ∙ answers-whole (k .inv) (search needs) (c .before .before .before .before .pre)
+    let inside = c .before .before .before .before .pre in
+    ap (λ (r : Row). Whole r (k .next)) (c .row-by .ensures) ∙ answers-whole (k .inv) (search needs) inside
 
 pub row-at-spec : {M : Type 1} → statement M
 row-at-spec =

@@ -50,7 +50,8 @@ loop-again : tie.Need-loop-again Inv-loop μ-loop
 loop-again c =
     let key = c .before .before .before .before .before .row-key in
     let p = c .before .before .put-line in
-    more-laid (c .before .before .before .before .before .before .before .loop .inv) (search needs) (key .result) (key .ensures) (p .result) (p .last .0) (p .ensures)
+    let k = c .before .before .before .before .before .before .before .loop in
+    more-laid (k .inv) (search needs) (key .result) (key .ensures) (p .result) (p .last .0) (p .ensures)
 
 same-length : tie.Need-same-length Inv-loop μ-loop
 same-length c = as-long (c .before .loop .inv .putting)

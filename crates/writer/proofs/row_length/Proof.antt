@@ -43,7 +43,8 @@ add-sum : tie.Need-add-sum Inv-loop μ-loop
 add-sum c =
     let k = c .before .before .before .before .loop in
     let key = c .before .before .row-key in
-    omega (arith, sum-small (k .inv) (search needs) (key .result) (c .line-length .result) (key .ensures) (c .line-length .ensures))
+    let l = c .line-length in
+    omega (arith, sum-small (k .inv) (search needs) (key .result) (l .result) (key .ensures) (l .ensures))
 
 add-j : tie.Need-add-j Inv-loop μ-loop
 add-j c = search needs
@@ -55,11 +56,14 @@ loop-again : tie.Need-loop-again Inv-loop μ-loop
 loop-again c =
     let k = c .before .before .before .before .loop in
     let key = c .before .before .row-key in
-    more-summed (k .inv) (search needs) (key .result) (c .line-length .result) (key .ensures) (c .line-length .ensures)
+    let l = c .line-length in
+    more-summed (k .inv) (search needs) (key .result) (l .result) (key .ensures) (l .ensures)
 
 returns : tie.Need-returns Inv-loop μ-loop
 unfolding rowText
-returns c = all-summed (c .before .loop .inv) (search needs) ∙ ap (λ (vs : List ℕ). length (linesText row-keys vs)) (c .before .before .values-of .ensures)
+returns c =
+    let are = c .before .before .values-of .ensures in
+    all-summed (c .before .loop .inv) (search needs) ∙ ap (λ (vs : List ℕ). length (linesText row-keys vs)) are
 
 pub row-length-spec : {M : Type 1} → statement M
 row-length-spec =
