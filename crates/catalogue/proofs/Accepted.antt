@@ -16,7 +16,7 @@ use lib.ListN.{length, getD, drop, length-drop}
 use Rattle.table.specs.declared.Verdict.{Verdict}
 use Rattle.table.specs.declared.Verdict.the-variants.{Good, Refused}
 use Rattle.table.proofs.Judging.{never-good}
-use Rattle.text.proofs.Front.{differ}
+use Rattle.lists.proofs.Truth.{differ}
 use Rattle.catalogue.specs.Catalogue.{numbers, fields, keys, Distinct, IsCatalogue, linesVerdict, stringsIn}
 use Rattle.catalogue.specs.Catalogue.{labelsIn, firstRepeat, repeatedLine, afterLines, verdictOn}
 use Rattle.catalogue.proofs.Keys.{key-plain, keys-all}

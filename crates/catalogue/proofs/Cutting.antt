@@ -20,7 +20,8 @@ use Rattle.table.specs.Table.{refuse}
 use Rattle.table.specs.declared.Verdict.the-variants.{Good, Refused}
 use Rattle.table.proofs.Judging.{never-good}
 use Rattle.text.specs.Text.{line-feed, starts}
-use Rattle.text.proofs.Front.{differ, starts-self, starts-true}
+use Rattle.lists.proofs.Truth.{differ}
+use Rattle.text.proofs.Front.{starts-self, starts-true}
 use Rattle.catalogue.specs.Catalogue.{longest-string, noFeed, isString, textOf, firstLine, isEnded, behindLine}
 use Rattle.catalogue.specs.Catalogue.{stringAt, stringRefusal, lineRefusal, linesVerdict, stringsIn}
 use Rattle.catalogue.proofs.Lines.{key-fronts}

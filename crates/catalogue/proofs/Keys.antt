@@ -21,7 +21,7 @@ use Rattle.lists.specs.Lists.{largest}
 use Rattle.lists.proofs.Build.{getD-build}
 use Rattle.lists.proofs.Figures.{at-most-largest}
 use Rattle.text.specs.Text.{width, lastDigits, numeral, starts}
-use Rattle.text.proofs.Front.{differ}
+use Rattle.lists.proofs.Truth.{differ}
 use Rattle.catalogue.specs.declared.Key.{Key}
 use Rattle.catalogue.specs.Catalogue.{numbers, fields, keyOf, keys, noFeed}
 use Rattle.catalogue.specs.Steps.{lines, HoldsKey}

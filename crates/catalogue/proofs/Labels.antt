@@ -13,7 +13,7 @@ use borrow.Author.Tests.{eq-eqb, eqb-true}
 use lib.Dec.{eqb}
 use lib.ListN.{length, getD, take}
 use lib.Seq.{length-take-le, getD-take}
-use Rattle.text.proofs.Front.{differ}
+use Rattle.lists.proofs.Truth.{differ}
 use Rattle.catalogue.specs.Catalogue.{Distinct, same, among, firstRepeat}
 
 -- Strings that are the same are equal.

@@ -20,7 +20,8 @@ use lib.Seq.{drop-cons, drop-drop}
 use Rattle.table.specs.Table.{refuse}
 use Rattle.table.specs.declared.Verdict.the-variants.{Good, Refused}
 use Rattle.text.specs.Text.{line-feed, starts}
-use Rattle.text.proofs.Front.{differ, starts-true}
+use Rattle.lists.proofs.Truth.{differ}
+use Rattle.text.proofs.Front.{starts-true}
 use Rattle.catalogue.specs.Steps.{linesOn}
 use Rattle.catalogue.specs.Catalogue.{noFeed, firstLine, isEnded, behindLine, stringAt, stringRefusal}
 use Rattle.catalogue.specs.Catalogue.{lineRefusal, linesVerdict}

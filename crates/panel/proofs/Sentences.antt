@@ -21,7 +21,7 @@ use Rattle.planner.specs.Planner.{planRoom, ending, answerToRows, afterVerdict,
 use Rattle.text.specs.declared.Reading.{Reading}
 use Rattle.text.specs.declared.Writing.{Writing}
 use Rattle.text.specs.declared.Writing.the-variants.{Written, Refused as NotWritten}
-use Rattle.text.specs.Text.{nodes-key, rows-key, textOf, lineGood, lineRest, wrongLine, nodesIn, rowsIn, bodyOf, readingOfRows, readingOfBody, readingOf, writingOf}
+use Rattle.text.specs.Text.{nodes-key, rows-key, textOf, lineGood, lineRest, wrongLine, rowsKeys, nodesIn, rowsIn, bodyOf, readingOfRows, readingOfBody, readingOf, writingOf}
 use Rattle.area.specs.Area as Area
 use Rattle.area.specs.Area.{most-links, countIn}
 use Rattle.edit.specs.declared.Entry.{Entry}
@@ -87,7 +87,7 @@ plan-has-sentence {n} {rows} {p} {a} d = rw (d .answers) (answer-told n rows (le
 -- What the lines of the rows come to, what all behind line 2 comes to, and what a text comes to.
 lines-told : (n k : ℕ) (body : List ℕ) → ToldReading (readingOfRows n k body)
 unfolding readingOfRows flatReading isIn firstPlace
-lines-told n k body = either ToldReading (eqb (wrongLine k body 3) 0) refl refl
+lines-told n k body = either ToldReading (eqb (wrongLine (rowsKeys k) body 3) 0) refl refl
 
 body-told : (n k lent : ℕ) (body : List ℕ) → ToldReading (readingOfBody n k lent body)
 unfolding readingOfBody flatReading isIn firstPlace

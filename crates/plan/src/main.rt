@@ -1,18 +1,20 @@
+// Plans a table read from standard input.
 ghost use lib.ListN.{length};
 ghost use mathlib.Core.Path.{_≡_};
+ghost use Rattle.report.specs.Report.{input-most, output-most};
 use libc::STDIN_FILENO;
 use libc::STDOUT_FILENO;
 
-// Room for the text: a longer input is read no further, since no right text is so long.
+// Room for the text: a longer input is read no further, since the rest changes no answer.
 fn text_room() -> [u8; 16384]
-    ensures { λ r. ⌜ 16384 ≡ length r ⌝ }
+    ensures { λ r. ⌜ input-most ≡ length r ⌝ }
 {
     [0u8; 16384]
 }
 
 // Room for the longest output.
 fn output_room() -> [u8; 212992]
-    ensures { λ r. ⌜ 212992 ≡ length r ⌝ }
+    ensures { λ r. ⌜ output-most ≡ length r ⌝ }
 {
     [0u8; 212992]
 }

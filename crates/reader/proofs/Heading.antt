@@ -11,13 +11,14 @@ use Rattle.table.specs.Steps.{columns}
 use Rattle.table.specs.declared.Refusal.{Refusal}
 use Rattle.text.specs.declared.Reading.{Reading}
 use Rattle.text.specs.declared.Reading.the-variants.{Read, Refused}
-use Rattle.text.specs.Text.{nodes-key, rows-key, lineGood, nodesIn, rowsIn, bodyOf, readingOfRows, readingOfBody, readingOf, rowsRead}
+use Rattle.text.specs.Text.{line-feed, nodes-key, rows-key, lineGood, nodesIn, rowsIn, bodyOf, readingOfRows, readingOfBody, readingOf, rowsRead}
 use Rattle.text.proofs.RoundTrip.{refused-not}
 use Rattle.reader.specs.Steps.{RowsTaken, TextRead}
-use Rattle.reader.proofs.Rows.{Seen}
+use Rattle.lines.proofs.Seen.{Seen}
 
 -- a reading that is refused
-pub refused-read : (text : List ℕ) (lent : ℕ) (src dst due : List ℕ) (answer : Reading) (r : Refusal) → answer ≡ Refused r → Refused r ≡ readingOf text lent → TextRead text lent answer src dst due
+pub refused-read : (text : List ℕ) (lent : ℕ) (src dst due : List ℕ) (answer : Reading) (r : Refusal)
+    → answer ≡ Refused r → Refused r ≡ readingOf text lent → TextRead text lent answer src dst due
 refused-read text lent src dst due answer r e h = record { judged = e ∙ h; rows = λ g f. absurd (refused-not r g (sym e ∙ f)) }
 
 module _ (text : List ℕ) (lent : ℕ) where
@@ -25,12 +26,12 @@ module _ (text : List ℕ) (lent : ℕ) where
   unfolding readingOf
   first-wrong e = rw e
 
-  module _ (nodes second : ℕ) (one : Seen nodes-key text 0 nodes second) where
+  module _ (nodes second : ℕ) (one : Seen nodes-key line-feed text 0 nodes second) where
     pub second-wrong : lineGood rows-key (drop second text) ≡ false → Refused (refuse 20 2 0) ≡ readingOf text lent
     unfolding readingOf
     second-wrong e = rw (one .good, ← one .rest, e)
 
-    module _ (rows third : ℕ) (two : Seen rows-key text second rows third) where
+    module _ (rows third : ℕ) (two : Seen rows-key line-feed text second rows third) where
       nodes-is : nodesIn text ≡ nodes
       unfolding nodesIn
       nodes-is = sym (one .value)

@@ -1,6 +1,3 @@
-mod Counting
-mod Seeing
-mod Rows
 mod ColumnLaws
 mod Loading
 mod Heading

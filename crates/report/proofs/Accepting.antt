@@ -27,7 +27,8 @@ use Rattle.planner.proofs.Good.{soon}
 use Rattle.planner.proofs.Judged.{Sound, sound, listed-fronts, fronts-tabled}
 use Rattle.planner.proofs.Promises.{tabled, all-good, distances-long}
 use Rattle.report.specs.Report.{verdictLines, acceptedText, answerText, tableText}
-use Rattle.report.specs.Steps.{Room, Slotted}
+use Rattle.text.specs.Steps.{Room}
+use Rattle.report.specs.Steps.{Slotted}
 use Rattle.report.proofs.Sizes.{verdict-most, accepted-most}
 
 -- the accepted table was judged to be good

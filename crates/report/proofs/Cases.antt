@@ -10,7 +10,7 @@ use Rattle.table.specs.Table.{rowRefusal, judgeRows, judge, destinations, dues,
 use Rattle.table.specs.Steps.{sources}
 use Rattle.slack.specs.Slack.{underWay, place, slackOf, slack, isLate, lateFrom, lateRow, better, pick, slotOf, moved, stateAt, planOf, deliveredFrom, arrivalsOf, anyUnderWay, stopFrom, stopOf}
 use Rattle.planner.specs.Planner.{ending, thePlan, theArrivals, quotient, summaryOf, theSummary, answerToRows, afterVerdict, theAnswer}
-use Rattle.text.specs.Text.{width, lastDigits, numeral, line, starts, digitsAt, extended, lineValue, lineGood, lineRest, wrongInRow, rowAt, pastRow, wrongLine, rowsAt, nodesIn, rowsIn, bodyOf, readingOfRows, readingOfBody, readingOf, rowsRead}
+use Rattle.text.specs.Text.{width, lastDigits, numeral, line, row-keys, starts, digitsAt, extended, itemValue, itemGood, itemRest, valuesAt, behindLines, wrongLine, rowsKeys, rowAt, rowsAt, nodesIn, rowsIn, bodyOf, readingOfRows, readingOfBody, readingOf, rowsRead}
 use Rattle.text.proofs.Cases.{case-b-text}
 use Rattle.report.specs.Report.{verdictLines, arriveLines, markBefore, parted, sendLine, sendLines, acceptedText, answerText, tableText, readingText, outputOf}
 
@@ -74,6 +74,6 @@ unfolding total largest distance standing
     rowRefusal judgeRows judge sources destinations dues distances lastDue
     underWay place slackOf slack isLate lateFrom lateRow better pick slotOf moved stateAt planOf deliveredFrom arrivalsOf anyUnderWay stopFrom stopOf
     ending thePlan theArrivals quotient summaryOf theSummary answerToRows afterVerdict theAnswer div ofInt
-    width lastDigits numeral line starts digitsAt extended lineValue lineGood lineRest wrongInRow rowAt pastRow wrongLine rowsAt nodesIn rowsIn bodyOf readingOfRows readingOfBody readingOf rowsRead
+    width lastDigits numeral line starts digitsAt extended itemValue itemGood itemRest row-keys valuesAt behindLines wrongLine rowsKeys rowAt rowsAt nodesIn rowsIn bodyOf readingOfRows readingOfBody readingOf rowsRead
     verdictLines arriveLines markBefore parted sendLine sendLines acceptedText answerText tableText readingText outputOf
 printed = refl

@@ -1,4 +1,3 @@
-pub mod Putting
 pub mod Lines
 mod Listing
 mod Sending
@@ -8,3 +7,4 @@ pub mod Accepting
 pub mod Responding
 pub mod Cases
 pub mod Shape
+pub mod Rest

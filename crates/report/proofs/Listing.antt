@@ -7,8 +7,9 @@ use lib.ListN.{length, getD, drop}
 use Rattle.text.specs.Text.{line}
 use Rattle.text.specs.Steps.{pasted}
 use Rattle.report.specs.Report.{arrive-key, arriveLines, sendLine, sendLines}
-use Rattle.report.specs.Steps.{Put, Room, Slotted}
-use Rattle.report.proofs.Putting.{Putting, fits, put-on, one-put}
+use Rattle.text.specs.Steps.{Put, Room}
+use Rattle.report.specs.Steps.{Slotted}
+use Rattle.text.proofs.Putting.{Putting, fits, put-on, one-put}
 use Rattle.report.proofs.Lines.{next-arrive, entries, next-send}
 
 module _ {area₀ : List ℕ} {from : ℕ} {whole area : List ℕ} {at : ℕ} (xs : List ℕ) (i : ℕ) (k : Putting area₀ from whole area at (arriveLines (drop i xs))) (h : i < length xs) where

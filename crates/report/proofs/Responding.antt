@@ -17,7 +17,7 @@ use Rattle.text.specs.declared.Reading.the-variants.{Read, Refused as NotRead}
 use Rattle.text.specs.Text.{readingOf, rowsRead}
 use Rattle.text.specs.Steps.{pasted}
 use Rattle.report.specs.Report.{verdictLines, tableText, readingText, outputOf, Reported}
-use Rattle.report.specs.Steps.{Put}
+use Rattle.text.specs.Steps.{Put}
 use Rattle.report.proofs.Sizes.{verdict-most}
 use Rattle.report.proofs.Accepting.{table-most}
 

@@ -9,8 +9,8 @@ use lib.ListN.{length, getD, drop}
 use Rattle.text.specs.Text.{line-feed, item}
 use Rattle.text.specs.Steps.{pasted}
 use Rattle.report.specs.Report.{send-key, comma, parted, sendLine}
-use Rattle.report.specs.Steps.{Put, Room}
-use Rattle.report.proofs.Putting.{Putting, begun, as-long, fits, rest-room, put-on, one-put, put-last, all-put}
+use Rattle.text.specs.Steps.{Put, Room}
+use Rattle.text.proofs.Putting.{Putting, begun, as-long, fits, rest-room, put-on, one-put, put-last, all-put}
 use Rattle.report.proofs.Lines.{next-entry, first-entry, no-entry}
 
 module _ (area : List ℕ) (from : ℕ) (xs : List ℕ) (some : 1 ≤ length xs) (room : Room area from (sendLine xs)) {mark : ℕ} (m : mark ≡ cond (ltb (0 + 1) (length xs)) comma line-feed) where

@@ -9,8 +9,8 @@ use Rattle.table.specs.Table.{refuse}
 use Rattle.text.specs.Text.{line}
 use Rattle.text.specs.Steps.{pasted}
 use Rattle.report.specs.Report.{answer-key, row-key, slot-key, last-key, verdictLines, arriveLines, sendLines, acceptedText}
-use Rattle.report.specs.Steps.{Put, Room}
-use Rattle.report.proofs.Putting.{Putting, begun, fits, rest-room, put-on, one-put, put-last}
+use Rattle.text.specs.Steps.{Put, Room}
+use Rattle.text.proofs.Putting.{Putting, begun, fits, rest-room, put-on, one-put, put-last}
 
 module _ (area : List ℕ) (r : Refusal) (room : Room area 0 (verdictLines r)) where
   abbrev a : List ℕ

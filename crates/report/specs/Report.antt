@@ -46,6 +46,10 @@ arrivals-lent = 512
 abbrev pub records-lent : ℕ
 records-lent = 512
 
+-- The bytes of standard input that the program reads at most.
+abbrev pub input-most : ℕ
+input-most = 16384
+
 -- The bytes that are enough for every output.
 abbrev pub output-most : ℕ
 output-most = 212992

@@ -1,18 +1,8 @@
 -- What single steps of the code ask and give. The promise of `respond` speaks of Report.antt alone; nothing here has to be believed.
-use Prim.Native.Nat.{ℕ, _+_, _*_, _≤_}
+use Prim.Native.Nat.{ℕ, _*_, _≤_}
 use mathlib.Core.Path.{_≡_}
 use mathlib.Core.List.{List}
 use lib.ListN.{length}
-use Rattle.text.specs.Steps.{pasted}
-
--- Some bytes were written at a place, and the place behind them returned.
-pub record Put (area : List ℕ) (at : ℕ) (bytes : List ℕ) (next : ℕ) (area′ : List ℕ) : Type 0 where
-  pub place : next ≡ at + length bytes
-  pub so : area′ ≡ pasted area at bytes
-
--- There is room for some bytes at a place.
-abbrev pub Room : (area : List ℕ) (at : ℕ) (bytes : List ℕ) → Type 0
-Room area at bytes = at + length bytes ≤ length area
 
 -- A plan of so many slots with n entries each, as an accepted table has.
 pub record Slotted (n slots : ℕ) (plan : List ℕ) : Type 0 where

@@ -1,3 +1,4 @@
+// Prints what the plan program answers: it reads a text, plans the table, and writes lines of key=value.
 ghost use mathlib.Core.Path.{_≡_};
 ghost use mathlib.Core.Bool.{cond};
 ghost use Prim.Native.Nat.{_+_, _*_, _≤_, _<_};
@@ -6,7 +7,8 @@ ghost use lib.ListN.{length};
 ghost use Rattle.table.specs.Steps.{listed};
 ghost use Rattle.text.specs.Text.{line-feed};
 ghost use Rattle.report.specs.Report.{comma, output-most, plan-lent, arrivals-lent, verdictLines, arriveLines, sendLine, sendLines, acceptedText, tableText, Reported};
-ghost use Rattle.report.specs.Steps.{Put, Room, Slotted};
+ghost use Rattle.text.specs.Steps.{Put, Room};
+ghost use Rattle.report.specs.Steps.{Slotted};
 use lists::greatest;
 use planner::Answer;
 use planner::plan_columns;

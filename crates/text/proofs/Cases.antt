@@ -8,7 +8,7 @@ use Rattle.table.specs.Table.{refuse}
 use Rattle.table.specs.declared.Row.{Row}
 use Rattle.text.specs.declared.Reading.the-variants.{Read, Refused}
 use Rattle.text.specs.declared.Writing.the-variants.{Written, Refused as NotWritten}
-use Rattle.text.specs.Text.{width, lastDigits, numeral, line, rowText, rowsText, textOf, starts, digitsAt, extended, lineValue, lineGood, lineRest, wrongInRow, rowAt, pastRow, wrongLine, rowsAt, nodesIn, rowsIn, bodyOf, readingOfRows, readingOfBody, readingOf, rowsRead, writingOf, areaAfter}
+use Rattle.text.specs.Text.{width, lastDigits, numeral, line, row-keys, linesText, rowText, rowsText, textOf, starts, digitsAt, extended, itemValue, itemGood, itemRest, valuesAt, behindLines, wrongLine, rowsKeys, rowAt, rowsAt, nodesIn, rowsIn, bodyOf, readingOfRows, readingOfBody, readingOf, rowsRead, writingOf, areaAfter}
 
 -- The rows of case B, and its text as document 01 prints it.
 abbrev pub case-b : List Row
@@ -26,33 +26,33 @@ case-b-text =
     100 ∷ 117 ∷ 101 ∷ 61 ∷ 51 ∷ 10 ∷ []
 
 pub case-b-written : textOf 4 case-b ≡ case-b-text
-unfolding width lastDigits numeral line rowText rowsText textOf
+unfolding width lastDigits numeral line row-keys linesText rowText rowsText textOf
 case-b-written = refl
 
 pub case-b-read : readingOf case-b-text 2 ≡ Read (record { nodes = 4; rows = 2 })
-unfolding width lastDigits numeral line starts digitsAt extended lineValue lineGood lineRest wrongInRow rowAt pastRow wrongLine rowsAt nodesIn rowsIn bodyOf readingOfRows readingOfBody readingOf
+unfolding width lastDigits numeral line starts digitsAt extended itemValue itemGood itemRest row-keys valuesAt behindLines wrongLine rowsKeys rowAt rowsAt nodesIn rowsIn bodyOf readingOfRows readingOfBody readingOf
 case-b-read = refl
 
 pub case-b-rows : rowsRead case-b-text 2 ≡ case-b
-unfolding width lastDigits numeral line starts digitsAt extended lineValue lineGood lineRest wrongInRow rowAt pastRow wrongLine rowsAt nodesIn rowsIn bodyOf readingOfRows readingOfBody readingOf rowsRead
+unfolding width lastDigits numeral line starts digitsAt extended itemValue itemGood itemRest row-keys valuesAt behindLines wrongLine rowsKeys rowAt rowsAt nodesIn rowsIn bodyOf readingOfRows readingOfBody readingOf rowsRead
 case-b-rows = refl
 
 -- Its text has 51 bytes: an area of 50 is too short, one of 51 will do, and of one of 53 two bytes are left alone.
 pub case-b-too-long : writingOf 4 case-b 50 ≡ NotWritten (refuse 22 0 0)
-unfolding width lastDigits numeral line rowText rowsText textOf writingOf
+unfolding width lastDigits numeral line row-keys linesText rowText rowsText textOf writingOf
 case-b-too-long = refl
 
 pub case-b-fits : writingOf 4 case-b 51 ≡ Written 51
-unfolding width lastDigits numeral line rowText rowsText textOf writingOf
+unfolding width lastDigits numeral line row-keys linesText rowText rowsText textOf writingOf
 case-b-fits = refl
 
 pub case-b-in-area : areaAfter 4 case-b (replicate {A = ℕ} 53 7) ≡ case-b-text ++ (7 ∷ 7 ∷ [])
-unfolding width lastDigits numeral line rowText rowsText textOf areaAfter
+unfolding width lastDigits numeral line row-keys linesText rowText rowsText textOf areaAfter
 case-b-in-area = refl
 
 -- A table of 513 rows is not written, however long the area is.
 pub too-many-rows : writingOf 4 (replicate {A = Row} 513 (record { src = 0; dst = 1; due = 2 })) 20000 ≡ NotWritten (refuse 2 0 0)
-unfolding width lastDigits numeral line rowText rowsText textOf writingOf
+unfolding width lastDigits numeral line row-keys linesText rowText rowsText textOf writingOf
 too-many-rows = refl
 
 -- A text, and the refusal that it gets where 2 records are lent.
@@ -109,5 +109,5 @@ wrong-texts =
     []
 
 pub wrong-texts-refused : map (λ (w : Wrong). readingOf (w .text) 2) wrong-texts ≡ map (λ (w : Wrong). Refused (refuse (w .number) (w .place) 0)) wrong-texts
-unfolding width lastDigits numeral line starts digitsAt extended lineValue lineGood lineRest wrongInRow rowAt pastRow wrongLine rowsAt nodesIn rowsIn bodyOf readingOfRows readingOfBody readingOf
+unfolding width lastDigits numeral line starts digitsAt extended itemValue itemGood itemRest row-keys valuesAt behindLines wrongLine rowsKeys rowAt rowsAt nodesIn rowsIn bodyOf readingOfRows readingOfBody readingOf
 wrong-texts-refused = refl

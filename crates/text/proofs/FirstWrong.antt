@@ -1,101 +1,90 @@
 -- Refusal 20 names the first line that is not exactly so.
---     keyAt, behind       the key of each line by its number, and the text behind the first k lines
---     FirstWrong          the lines before line w are exactly so, and w is not, or bytes stand behind the last line
---     first-wrong         a text refused by 20 with w has w for its first wrong line
+--     keysOf                   the keys of all lines of a text, in their order
+--     rightAt                  whether line k + 1 is exactly so
+--     WrongAt, FirstWrong      the lines before line w are exactly so, and w is not, or bytes stand behind the last line
+--     first-wrong              a text refused by 20 with w has w for its first wrong line
 -- Assumes nothing.
 use mathlib.Core.Path.{_≡_, refl, _∙_, ap, sym}
 use mathlib.Core.Bool.{Bool, true, false, cond}
-use mathlib.Core.Logic.{_⊎_, inl, inr, _≢_}
-use mathlib.Core.List.{List, []}
-use Prim.Native.Nat.{ℕ, zero, suc, _+_, _*_, _<_}
+use mathlib.Core.Logic.{_⊎_, inl, inr}
+use mathlib.Core.List.{List, [], _∷_}
+use Prim.Native.Nat.{ℕ, zero, suc, _+_, _<_}
 use native.Mathlib.Omega.{arith}
-use borrow.Author.Tests.{eqb-true, eqb-false, ne-eqb}
+use borrow.Author.Tests.{eqb-false}
 use lib.Dec.{eqb, ltb}
-use lib.ListN.{length}
+use lib.ListN.{length, getD, take}
 use Rattle.table.specs.Table.{refuse}
 use Rattle.table.specs.declared.Refusal.{Refusal}
 use Rattle.text.specs.declared.Header.{Header}
 use Rattle.text.specs.declared.Reading.the-variants.{Read, Refused}
-use Rattle.text.specs.Text.{nodes-key, rows-key, src-key, dst-key, due-key, lineGood, lineRest, wrongInRow, pastRow, wrongLine, nodesIn, rowsIn, bodyOf, readingOfRows, readingOfBody, readingOf, numberOfReading, lineOfReading}
+use Rattle.text.specs.Text.{nodes-key, rows-key, lineGood, lineRest, behindLines, wrongLine, rowsKeys, nodesIn, rowsIn, bodyOf, readingOfRows, readingOfBody, readingOf, numberOfReading, lineOfReading}
 
--- The keys of the rows' lines: src, dst, due, and again.
-abbrev pub keyOfRow : ℕ → List ℕ
-keyOfRow zero = src-key
-keyOfRow (suc zero) = dst-key
-keyOfRow (suc (suc zero)) = due-key
-keyOfRow (suc (suc (suc k))) = keyOfRow k
+-- The keys of all lines of a text with so many rows: nodes, rows, then those of each row.
+abbrev pub keysOf : (rows : ℕ) → List (List ℕ)
+keysOf rows = nodes-key ∷ rows-key ∷ rowsKeys rows
 
--- The key of line k + 1: nodes, rows, then those of the rows.
-abbrev pub keyAt : ℕ → List ℕ
-keyAt zero = nodes-key
-keyAt (suc zero) = rows-key
-keyAt (suc (suc k)) = keyOfRow k
+-- Whether line k + 1 of a text whose lines have these keys is exactly so: its key's line stands behind the k lines before it.
+unfoldable pub rightAt : (keys : List (List ℕ)) (text : List ℕ) (k : ℕ) → Bool
+rightAt keys text k = lineGood (getD keys k []) (behindLines (take k keys) text)
 
--- The text behind the first k lines.
-abbrev pub behind : ℕ → List ℕ → List ℕ
-behind zero text = text
-behind (suc k) text = lineRest (keyAt k) (behind k text)
+-- Line k + 1 is wrong, or there is none, and bytes stand behind the last line.
+abbrev pub WrongAt : (keys : List (List ℕ)) (text : List ℕ) (k : ℕ) → Type 0
+WrongAt keys text k =
+    ((k < length keys) × (rightAt keys text k ≡ false)) ⊎ ((k ≡ length keys) × (behindLines keys text ≡ [] → ⊥))
 
--- Whether line k + 1 is exactly so.
-abbrev pub rightAt : List ℕ → ℕ → Bool
-rightAt text k = lineGood (keyAt k) (behind k text)
-
--- Line w, which is line k + 1, is the first that is wrong.
-pub record FirstWrong (text : List ℕ) (rows w : ℕ) : Type 0 where
+-- Of the lines of some keys, the first of which has number l, line w is the first that is wrong.
+pub record FirstOf (keys : List (List ℕ)) (text : List ℕ) (l w : ℕ) : Type 0 where
   pub k : ℕ
-  pub line : w ≡ suc k
-  pub before : (j : ℕ) → j < k → rightAt text j ≡ true
-  pub wrong : (rightAt text k ≡ false) ⊎ ((w ≡ 3 + 3 * rows) × (behind k text ≡ [] → ⊥))
+  pub line : w ≡ l + k
+  pub before : (j : ℕ) → j < k → rightAt keys text j ≡ true
+  pub wrong : WrongAt keys text k
 
-one-more : (f : ℕ → Bool) (n : ℕ) → ((j : ℕ) → j < n → f j ≡ true) → f n ≡ true → (j : ℕ) → j < suc n → f j ≡ true
-one-more f n before e j h = go (eqb j n) refl
-  where
-    go : (b : Bool) → eqb j n ≡ b → f j ≡ true
-    go true s = ap f (eqb-true j n s) ∙ e
-    go false s = let differs : j ≢ n = eqb-false j n s in before j (omega arith)
-
--- line k + 3 is the first of a row's
-record Phase (k : ℕ) : Type 0 where
-  src-next : keyOfRow k ≡ src-key
-  dst-next : keyOfRow (suc k) ≡ dst-key
-  due-next : keyOfRow (suc (suc k)) ≡ due-key
+-- Line w of a text is the first that is wrong.
+abbrev pub FirstWrong : (text : List ℕ) (rows w : ℕ) → Type 0
+FirstWrong text rows w = FirstOf (keysOf rows) text 1 w
 
 some-byte : (t : List ℕ) → (length t ≡ 0 → ⊥) → t ≡ [] → ⊥
 some-byte t d e = d (ap length e)
 
-module _ (text : List ℕ) (rows : ℕ) where
-  rows-first : (n m i l w : ℕ) (t : List ℕ) → rows ≡ i + n → m ≡ 3 * i → l ≡ 3 + m → Phase m → t ≡ behind (suc (suc m)) text → ((j : ℕ) → j < suc (suc m) → rightAt text j ≡ true) → w ≡ wrongLine n t l → (w ≡ 0 → ⊥) → FirstWrong text rows w
-  unfolding wrongLine wrongInRow pastRow
-  rows-first zero m i l w t e f g p at before so some = go (eqb (length t) 0) refl so
-    where
-      go : (b : Bool) → eqb (length t) 0 ≡ b → w ≡ cond b 0 l → FirstWrong text rows w
-      go true s v = absurd (some v)
-      go false s v =
-          record { k = suc (suc m); line = omega arith; before = before; wrong = inr (omega arith, λ z. some-byte t (eqb-false (length t) 0 s) (at ∙ z)) }
-  rows-first (suc n) m i l w t e f g p at before so some =
-      go (lineGood src-key t) (lineGood dst-key (lineRest src-key t)) (lineGood due-key (lineRest dst-key (lineRest src-key t))) refl refl refl so (rows-first n (suc (suc (suc m))) (suc i) (l + 3) w (pastRow t) (omega arith) (omega arith) (omega arith) (record { src-next = p .src-next; dst-next = p .dst-next; due-next = p .due-next }))
-    where
-      first-is : rightAt text (suc (suc m)) ≡ lineGood src-key t
-      first-is = rw (p .src-next, at)
+-- the first line is wrong
+here-wrong : (key : List ℕ) (keys : List (List ℕ)) (text : List ℕ) (l w : ℕ) → w ≡ l → lineGood key text ≡ false
+    → FirstOf (key ∷ keys) text l w
+unfolding rightAt behindLines
+here-wrong key keys text l w e s =
+    record { k = 0; line = omega arith; before = λ j h. absurd (omega arith); wrong = inl (omega arith, s) }
 
-      second-is : rightAt text (suc (suc (suc m))) ≡ lineGood dst-key (lineRest src-key t)
-      second-is = rw (p .dst-next, p .src-next, at)
+-- the first line is right, so the first wrong one is that of the rest
+further : (key : List ℕ) (keys : List (List ℕ)) (text : List ℕ) (l w : ℕ) → lineGood key text ≡ true
+    → FirstOf keys (lineRest key text) (suc l) w → FirstOf (key ∷ keys) text l w
+unfolding rightAt behindLines
+further key keys text l w s f =
+    record { k = suc (f .k); line = omega (arith, f .line); before = before; wrong = wrong (f .wrong) }
+  where
+    before : (j : ℕ) → j < suc (f .k) → rightAt (key ∷ keys) text j ≡ true
+    before zero h = s
+    before (suc j) h = f .before j (omega arith)
 
-      third-is : rightAt text (suc (suc (suc (suc m)))) ≡ lineGood due-key (lineRest dst-key (lineRest src-key t))
-      third-is = rw (p .due-next, p .dst-next, p .src-next, at)
+    wrong : WrongAt keys (lineRest key text) (f .k) → WrongAt (key ∷ keys) text (suc (f .k))
+    wrong (inl p) = inl (omega (arith, p .0), p .1)
+    wrong (inr p) = inr (ap suc (p .0), p .1)
 
-      go : (x y z : Bool) → lineGood src-key t ≡ x → lineGood dst-key (lineRest src-key t) ≡ y → lineGood due-key (lineRest dst-key (lineRest src-key t)) ≡ z → w ≡ cond (eqb (cond x (cond y (cond z 0 (l + 2)) (l + 1)) l) 0) (wrongLine n (pastRow t) (l + 3)) (cond x (cond y (cond z 0 (l + 2)) (l + 1)) l) → (pastRow t ≡ behind (suc (suc (suc (suc (suc m))))) text → ((j : ℕ) → j < suc (suc (suc (suc (suc m)))) → rightAt text j ≡ true) → w ≡ wrongLine n (pastRow t) (l + 3) → (w ≡ 0 → ⊥) → FirstWrong text rows w) → FirstWrong text rows w
-      go false y z q r s v rec =
-          let is : w ≡ l = v ∙ rw (ne-eqb l 0 (λ c. omega arith)) in
-          record { k = suc (suc m); line = omega arith; before = before; wrong = inl (first-is ∙ q) }
-      go true false z q r s v rec =
-          let is : w ≡ l + 1 = v ∙ rw (ne-eqb (l + 1) 0 (λ c. omega arith)) in
-          record { k = suc (suc (suc m)); line = omega arith; before = one-more (rightAt text) (suc (suc m)) before (first-is ∙ q); wrong = inl (second-is ∙ r) }
-      go true true false q r s v rec =
-          let is : w ≡ l + 2 = v ∙ rw (ne-eqb (l + 2) 0 (λ c. omega arith)) in
-          record { k = suc (suc (suc (suc m))); line = omega arith; before = one-more (rightAt text) (suc (suc (suc m))) (one-more (rightAt text) (suc (suc m)) before (first-is ∙ q)) (second-is ∙ r); wrong = inl (third-is ∙ s) }
-      go true true true q r s v rec =
-          rec (rw (p .due-next, p .dst-next, p .src-next, at)) (one-more (rightAt text) (suc (suc (suc (suc m)))) (one-more (rightAt text) (suc (suc (suc m))) (one-more (rightAt text) (suc (suc m)) before (first-is ∙ q)) (second-is ∙ r)) (third-is ∙ s)) v some
+first-of : (keys : List (List ℕ)) (text : List ℕ) (l w : ℕ) → w ≡ wrongLine keys text l → (w ≡ 0 → ⊥)
+    → FirstOf keys text l w
+unfolding wrongLine behindLines
+first-of [] text l w e some = go (eqb (length text) 0) refl e
+  where
+    go : (b : Bool) → eqb (length text) 0 ≡ b → w ≡ cond b 0 l → FirstOf [] text l w
+    go true s v = absurd (some v)
+    go false s v =
+        let some = some-byte text (eqb-false (length text) 0 s) in
+        record { k = 0; line = omega arith; before = λ j h. absurd (omega arith); wrong = inr (refl, some) }
+first-of (k ∷ ks) text l w e some = go (lineGood k text) refl e (λ f. first-of ks (lineRest k text) (suc l) w f some)
+  where
+    go : (b : Bool) → lineGood k text ≡ b → w ≡ cond b (wrongLine ks (lineRest k text) (suc l)) l
+        → (w ≡ wrongLine ks (lineRest k text) (suc l) → FirstOf ks (lineRest k text) (suc l) w)
+        → FirstOf (k ∷ ks) text l w
+    go true s v rec = further k ks text l w s (rec v)
+    go false s v rec = here-wrong k ks text l w v s
 
 other-number : (a b r s : ℕ) → (a ≡ b → ⊥) → Refused (refuse a r 0) ≡ Refused (refuse b s 0) → ⊥
 other-number a b r s d e = d (ap numberOfReading e)
@@ -106,25 +95,34 @@ never-read h r e = let z : _≡_ {A = ℕ} 0 1 = cc in omega arith
 same-line : (a b : ℕ) → Refused (refuse 20 a 0) ≡ Refused (refuse 20 b 0) → b ≡ a
 same-line a b e = sym (ap lineOfReading e)
 
-pub first-wrong : (text : List ℕ) (lent w : ℕ) → readingOf text lent ≡ Refused (refuse 20 w 0) → FirstWrong text (rowsIn text) w
+pub first-wrong : (text : List ℕ) (lent w : ℕ) → readingOf text lent ≡ Refused (refuse 20 w 0)
+    → FirstWrong text (rowsIn text) w
 unfolding readingOf readingOfBody readingOfRows bodyOf
 first-wrong text lent w e =
     go (lineGood nodes-key text) (lineGood rows-key (lineRest nodes-key text)) (ltb 512 (rowsIn text)) (ltb lent (rowsIn text)) (eqb wrong 0) refl refl refl e
   where
     wrong : ℕ
-    wrong = wrongLine (rowsIn text) (bodyOf text) 3
+    wrong = wrongLine (rowsKeys (rowsIn text)) (bodyOf text) 3
 
     found : Header
     found = record { nodes = nodesIn text; rows = rowsIn text }
 
-    go : (a b c d f : Bool) → lineGood nodes-key text ≡ a → lineGood rows-key (lineRest nodes-key text) ≡ b → eqb wrong 0 ≡ f → cond a (cond b (cond c (Refused (refuse 2 0 0)) (cond d (Refused (refuse 21 0 0)) (cond f (Read found) (Refused (refuse 20 wrong 0))))) (Refused (refuse 20 2 0))) (Refused (refuse 20 1 0)) ≡ Refused (refuse 20 w 0) → FirstWrong text (rowsIn text) w
-    go false b c d f p q t e = record { k = 0; line = same-line 1 w e; before = λ j h. absurd (omega arith); wrong = inl p }
+    after : List (List ℕ)
+    after = rowsKeys (rowsIn text)
+
+    go : (a b c d f : Bool) → lineGood nodes-key text ≡ a → lineGood rows-key (lineRest nodes-key text) ≡ b
+        → eqb wrong 0 ≡ f
+        → cond a (cond b (cond c (Refused (refuse 2 0 0)) (cond d (Refused (refuse 21 0 0)) (cond f (Read found) (Refused (refuse 20 wrong 0))))) (Refused (refuse 20 2 0))) (Refused (refuse 20 1 0)) ≡ Refused (refuse 20 w 0)
+        → FirstWrong text (rowsIn text) w
+    go false b c d f p q t e = here-wrong nodes-key (rows-key ∷ after) text 1 w (same-line 1 w e) p
     go true false c d f p q t e =
-        record { k = 1; line = same-line 2 w e; before = one-more (rightAt text) 0 (λ j h. absurd (omega arith)) p; wrong = inl q }
+        let second = here-wrong rows-key after (lineRest nodes-key text) 2 w (same-line 2 w e) q in
+        further nodes-key (rows-key ∷ after) text 1 w p second
     go true true true d f p q t e = absurd (other-number 2 20 0 w (λ z. omega arith) e)
     go true true false true f p q t e = absurd (other-number 21 20 0 w (λ z. omega arith) e)
     go true true false false true p q t e = absurd (never-read found (refuse 20 w 0) e)
     go true true false false false p q t e =
         let is : w ≡ wrong = same-line wrong w e in
         let some : (w ≡ 0 → ⊥) = λ z. eqb-false wrong 0 t (sym is ∙ z) in
-        rows-first text (rowsIn text) (rowsIn text) 0 0 3 w (bodyOf text) (omega arith) (omega arith) (omega arith) (record { src-next = refl; dst-next = refl; due-next = refl }) refl (one-more (rightAt text) 1 (one-more (rightAt text) 0 (λ j h. absurd (omega arith)) p) q) is some
+        let second = further rows-key after (lineRest nodes-key text) 2 w q (first-of after (bodyOf text) 3 w is some) in
+        further nodes-key (rows-key ∷ after) text 1 w p second

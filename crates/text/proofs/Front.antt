@@ -14,10 +14,8 @@ use borrow.Author.Tests.{eq-eqb, ne-eqb, eqb-true}
 use lib.Dec.{eqb}
 use lib.ListN.{length, getD, drop, drop-of-length-le, length-drop}
 use lib.Seq.{drop-cons}
+use Rattle.lists.proofs.Truth.{differ}
 use Rattle.text.specs.Text.{starts}
-
-pub differ : false ≡ true → ⊥
-differ e = let z : _≡_ {A = ℕ} 0 1 = cc in omega arith
 
 pub starts-self : (xs ys : List ℕ) → starts xs (xs ++ ys) ≡ true
 unfolding starts

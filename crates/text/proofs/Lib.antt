@@ -4,7 +4,9 @@ pub mod Front
 pub mod Lines
 pub mod RowLaws
 pub mod Pasting
+pub mod Putting
 pub mod Lengths
 pub mod RoundTrip
 pub mod Promises
 pub mod FirstWrong
+pub mod Rest

@@ -1,7 +1,8 @@
--- One line: where it is exactly so.
---     line-found       a text that begins with a line of a key is seen to, with that line's value and the rest
---     line-stands      a line that is seen stands there: the text is that line and the rest
---     line-iff         so a line is good exactly if the text is a line of a value up to 65,535 and a rest
+-- A number behind a key, up to its mark: where it stands exactly so. A line is the case of a line feed.
+--     item-length, line-length     how long it is
+--     item-found, line-found       a text that begins with an item is seen to, with its number and the rest
+--     item-stands, line-stands     an item that is seen stands there: the text is that item and the rest
+--     item-iff, line-iff           so an item is good exactly if the text is an item of a value up to 65,535 and a rest
 -- Assumes nothing.
 use mathlib.Core.Path.{_≡_, refl, _∙_, ap}
 use mathlib.Core.Bool.{Bool, true, false, _&&_}
@@ -13,58 +14,89 @@ use borrow.Author.Tests.{le-leb, leb-true}
 use lib.Dec.{leb}
 use lib.ListN.{length, drop, length-append}
 use lib.Seq.{drop-append-seam}
-use Rattle.text.specs.Text.{width, numeral, line, starts, lineValue, lineGood, lineRest}
+use Rattle.lists.proofs.Truth.{both-hold}
+use Rattle.text.specs.Text.{line-feed, greatest-value, width, numeral, item, line, starts, isDigit, itemValue, itemGood, itemRest, lineValue, lineGood, lineRest}
 use Rattle.text.proofs.Numeral.{numeral-length, numeral-digits, numeral-value, width-most, digits-read}
-use Rattle.text.proofs.Front.{differ, starts-self, starts-true}
+use Rattle.text.proofs.Front.{starts-self, starts-true}
 
-pub both-hold : (x y : Bool) → x && y ≡ true → (x ≡ true) × (y ≡ true)
-both-hold true y e = (refl, e)
-both-hold false y e = absurd (differ e)
+-- an item has its key, its digits and its mark
+pub item-length : (key : List ℕ) (v mark : ℕ) → length (item key v mark) ≡ length key + width v + 1
+item-length key v mark = simp (length-append, numeral-length) (omega arith)
 
--- a line has its key, its digits and a line feed
 pub line-length : (key : List ℕ) (v : ℕ) → length (line key v) ≡ length key + width v + 1
 unfolding line
-line-length key v = simp (length-append, numeral-length) (omega arith)
+line-length key v = item-length key v line-feed
 
 -- the bytes behind the key
-behind : (key : List ℕ) (v : ℕ) (rest : List ℕ) → drop (length key) (line key v ++ rest) ≡ numeral v ++ (10 ∷ rest)
-unfolding line
-behind key v rest =
-    ap (drop (length key)) (simp append-assoc) ∙ drop-append-seam key (numeral v ++ (10 ∷ rest))
+behind : (key : List ℕ) (v mark : ℕ) (rest : List ℕ)
+    → drop (length key) (item key v mark ++ rest) ≡ numeral v ++ (mark ∷ rest)
+behind key v mark rest =
+    ap (drop (length key)) (simp append-assoc) ∙ drop-append-seam key (numeral v ++ (mark ∷ rest))
 
-module _ (key : List ℕ) (v : ℕ) (rest : List ℕ) (small : v ≤ 65535) where
-  found-value : lineValue key (line key v ++ rest) ≡ v
-  unfolding lineValue
+module _ (key : List ℕ) (v mark : ℕ) (rest : List ℕ) (no-digit : isDigit mark ≡ false) (small : v ≤ greatest-value) where
+  abbrev here : List ℕ
+  here = item key v mark ++ rest
+
+  found-value : itemValue key here ≡ v
+  unfolding itemValue
   found-value =
-      rw (behind key v rest, digits-read 5 (numeral v) rest (numeral-digits v) (rw (numeral-length v) (width-most v)))
+      rw (behind key v mark rest, digits-read 5 (numeral v) mark rest no-digit (numeral-digits v) (rw (numeral-length v) (width-most v)))
       (numeral-value v (omega arith))
 
-  found-good : lineGood key (line key v ++ rest) ≡ true
-  unfolding lineGood
-  found-good = rw (found-value, le-leb v 65535 small) (starts-self (line key v) rest)
+  found-good : itemGood key mark here ≡ true
+  unfolding itemGood
+  found-good = rw (found-value, le-leb v greatest-value small) (starts-self (item key v mark) rest)
 
-  found-rest : lineRest key (line key v ++ rest) ≡ rest
-  unfolding lineRest
-  found-rest = rw found-value (drop-append-seam (line key v) rest)
+  found-rest : itemRest key mark here ≡ rest
+  unfolding itemRest
+  found-rest = rw found-value (drop-append-seam (item key v mark) rest)
 
-  pub line-found : (lineGood key (line key v ++ rest) ≡ true) × (lineValue key (line key v ++ rest) ≡ v) × (lineRest key (line key v ++ rest) ≡ rest)
-  line-found = (found-good, found-value, found-rest)
+  pub item-found : (itemGood key mark here ≡ true) × (itemValue key here ≡ v) × (itemRest key mark here ≡ rest)
+  item-found = (found-good, found-value, found-rest)
 
-pub line-stands : (key text : List ℕ) → lineGood key text ≡ true → (lineValue key text ≤ 65535) × (text ≡ line key (lineValue key text) ++ lineRest key text)
-unfolding lineGood lineRest
-line-stands key text e =
-    let both = both-hold (leb (lineValue key text) 65535) (starts (line key (lineValue key text)) text) e in
-    (leb-true (lineValue key text) 65535 (both .0), starts-true (line key (lineValue key text)) text (both .1))
+pub line-found : (key : List ℕ) (v : ℕ) (rest : List ℕ) → v ≤ greatest-value
+    → (lineGood key (line key v ++ rest) ≡ true) × (lineValue key (line key v ++ rest) ≡ v) × (lineRest key (line key v ++ rest) ≡ rest)
+unfolding line
+line-found key v rest = item-found key v line-feed rest refl
+
+pub item-stands : (key : List ℕ) (mark : ℕ) (text : List ℕ) → itemGood key mark text ≡ true
+    → (itemValue key text ≤ greatest-value) × (text ≡ item key (itemValue key text) mark ++ itemRest key mark text)
+unfolding itemGood itemRest
+item-stands key mark text e =
+    let v = itemValue key text in
+    let both = both-hold (leb v greatest-value) (starts (item key v mark) text) e in
+    (leb-true v greatest-value (both .0), starts-true (item key v mark) text (both .1))
+
+pub line-stands : (key text : List ℕ) → lineGood key text ≡ true
+    → (lineValue key text ≤ greatest-value) × (text ≡ line key (lineValue key text) ++ lineRest key text)
+unfolding line
+line-stands key text = item-stands key line-feed text
+
+-- a text begins with an item of the key, up to the mark
+pub record BeginsItem (key : List ℕ) (mark : ℕ) (text : List ℕ) : Type 0 where
+  pub value : ℕ
+  pub rest : List ℕ
+  pub small : value ≤ greatest-value
+  pub so : text ≡ item key value mark ++ rest
+
+pub item-iff : (key : List ℕ) (mark : ℕ) (text : List ℕ) → isDigit mark ≡ false
+    → (itemGood key mark text ≡ true) ↔ BeginsItem key mark text
+item-iff key mark text no-digit = (
+  λ e. record { value = itemValue key text; rest = itemRest key mark text; small = item-stands key mark text e .0; so = item-stands key mark text e .1 },
+  λ b. ap (itemGood key mark) (b .so) ∙ found-good key (b .value) mark (b .rest) no-digit (b .small),
+)
 
 -- a text begins with a line of the key
 pub record Begins (key text : List ℕ) : Type 0 where
   pub value : ℕ
   pub rest : List ℕ
-  pub small : value ≤ 65535
+  pub small : value ≤ greatest-value
   pub so : text ≡ line key value ++ rest
 
 pub line-iff : (key text : List ℕ) → (lineGood key text ≡ true) ↔ Begins key text
-line-iff key text = (
-  λ e. record { value = lineValue key text; rest = lineRest key text; small = line-stands key text e .0; so = line-stands key text e .1 },
-  λ b. ap (lineGood key) (b .so) ∙ found-good key (b .value) (b .rest) (b .small),
-)
+unfolding line
+line-iff key text =
+    let both = item-iff key line-feed text refl in (
+      λ e. let b = both .0 e in record { value = b .value; rest = b .rest; small = b .small; so = b .so },
+      λ b. both .1 (record { value = b .value; rest = b .rest; small = b .small; so = b .so }),
+    )

@@ -18,7 +18,7 @@ use borrow.Author.Tests.{ltb-true, ltb-false, leb-true, le-leb}
 use lib.Dec.{ltb, leb}
 use lib.ListN.{length, getD, drop, length-append}
 use lib.Seq.{append-snoc}
-use Rattle.text.specs.Text.{width, lastDigits, numeral, digitsAt, extended}
+use Rattle.text.specs.Text.{width, lastDigits, numeral, isDigit, digitsAt, extended}
 
 abbrev pub Digits : List ℕ → Type 0
 Digits [] = Unit {0}
@@ -54,7 +54,8 @@ last-value zero v h = sym h
 last-value (suc k) v h = extended-join 0 (lastDigits k (v / 10)) ((48 + v % 10) ∷ []) ∙ omega (arith, last-value k (v / 10) h)
 
 -- the last digits of a number that digits extend are those digits
-last-again : (ds : List ℕ) (j v n : ℕ) → n ≡ length ds + j → Digits ds → lastDigits n (extended v ds) ≡ lastDigits j v ++ ds
+last-again : (ds : List ℕ) (j v n : ℕ) → n ≡ length ds + j → Digits ds
+    → lastDigits n (extended v ds) ≡ lastDigits j v ++ ds
 unfolding extended lastDigits
 last-again [] j v n e p = let same : n ≡ j = omega arith in rw (same, append-nil)
 last-again (d ∷ ds) j v n e p =
@@ -88,7 +89,8 @@ width-few : (v : ℕ) → v < 100000 → Few (width v) v
 unfolding width
 width-few v h = go (ltb v 10) (ltb v 100) (ltb v 1000) (ltb v 10000) refl refl refl refl
   where
-    go : (a b c d : Bool) → ltb v 10 ≡ a → ltb v 100 ≡ b → ltb v 1000 ≡ c → ltb v 10000 ≡ d → Few (cond a 1 (cond b 2 (cond c 3 (cond d 4 5)))) v
+    go : (a b c d : Bool) → ltb v 10 ≡ a → ltb v 100 ≡ b → ltb v 1000 ≡ c → ltb v 10000 ≡ d
+        → Few (cond a 1 (cond b 2 (cond c 3 (cond d 4 5)))) v
     go true b c d e f g i = omega (arith, ltb-true v 10 e)
     go false true c d e f g i = omega (arith, ltb-true v 100 f)
     go false false true d e f g i = omega (arith, ltb-true v 1000 g)
@@ -119,7 +121,8 @@ unfolding numeral width lastDigits
 no-leading-zero v h =
     go (ltb v 10) (ltb v 100) (ltb v 1000) (ltb v 10000) refl refl refl refl
   where
-    go : (a b c d : Bool) → ltb v 10 ≡ a → ltb v 100 ≡ b → ltb v 1000 ≡ c → ltb v 10000 ≡ d → getD (lastDigits (cond a 1 (cond b 2 (cond c 3 (cond d 4 5)))) v) 0 0 ≡ 48 → v ≡ 0
+    go : (a b c d : Bool) → ltb v 10 ≡ a → ltb v 100 ≡ b → ltb v 1000 ≡ c → ltb v 10000 ≡ d
+        → getD (lastDigits (cond a 1 (cond b 2 (cond c 3 (cond d 4 5)))) v) 0 0 ≡ 48 → v ≡ 0
     go true b c d e f g i z = omega (arith, ltb-true v 10 e)
     go false true c d e f g i z = omega (arith, ltb-false v 10 e, ltb-true v 100 f)
     go false false true d e f g i z = omega (arith, ltb-false v 100 f, ltb-true v 1000 g)
@@ -132,13 +135,14 @@ no-line-feed [] i p e = omega arith
 no-line-feed (d ∷ ds) zero p e = omega arith
 no-line-feed (d ∷ ds) (suc i) p e = no-line-feed ds i (p .2) e
 
--- the digits at the front of some bytes
-pub digits-read : (k : ℕ) (ds r : List ℕ) → Digits ds → length ds ≤ k → digitsAt k (ds ++ (10 ∷ r)) ≡ ds
+-- the digits at the front of some bytes, up to a mark that is none
+pub digits-read : (k : ℕ) (ds : List ℕ) (mark : ℕ) (r : List ℕ) → isDigit mark ≡ false → Digits ds → length ds ≤ k
+    → digitsAt k (ds ++ (mark ∷ r)) ≡ ds
 unfolding digitsAt
-digits-read zero [] r p h = refl
-digits-read zero (d ∷ ds) r p h = absurd (not-suc-le-zero h)
-digits-read (suc k) [] r p h = refl
-digits-read (suc k) (d ∷ ds) r p h = rw (le-leb 48 d (p .0), le-leb d 57 (p .1), digits-read k ds r (p .2) (le-of-suc-le-suc h))
+digits-read zero [] mark r n p h = refl
+digits-read zero (d ∷ ds) mark r n p h = absurd (not-suc-le-zero h)
+digits-read (suc k) [] mark r n p h = rw n
+digits-read (suc k) (d ∷ ds) mark r n p h = rw (le-leb 48 d (p .0), le-leb d 57 (p .1), digits-read k ds mark r n (p .2) (le-of-suc-le-suc h))
 
 pub digits-are : (k : ℕ) (bytes : List ℕ) → Digits (digitsAt k bytes)
 unfolding digitsAt
@@ -146,7 +150,8 @@ digits-are zero bytes = tt
 digits-are (suc k) [] = tt
 digits-are (suc k) (b ∷ bs) = go (leb 48 b) (leb b 57) refl refl (digits-are k bs)
   where
-    go : (x y : Bool) → leb 48 b ≡ x → leb b 57 ≡ y → Digits (digitsAt k bs) → Digits (cond (x && y) (b ∷ digitsAt k bs) [])
+    go : (x y : Bool) → leb 48 b ≡ x → leb b 57 ≡ y → Digits (digitsAt k bs)
+        → Digits (cond (x && y) (b ∷ digitsAt k bs) [])
     go true true e f p = (leb-true 48 b e, leb-true b 57 f, p)
     go true false e f p = tt
     go false y e f p = tt
@@ -157,7 +162,8 @@ digits-stand zero bytes = refl
 digits-stand (suc k) [] = refl
 digits-stand (suc k) (b ∷ bs) = go (leb 48 b && leb b 57) (digits-stand k bs)
   where
-    go : (x : Bool) → bs ≡ digitsAt k bs ++ drop (length (digitsAt k bs)) bs → b ∷ bs ≡ cond x (b ∷ digitsAt k bs) [] ++ drop (length (cond x (b ∷ digitsAt k bs) [])) (b ∷ bs)
+    go : (x : Bool) → bs ≡ digitsAt k bs ++ drop (length (digitsAt k bs)) bs
+        → b ∷ bs ≡ cond x (b ∷ digitsAt k bs) [] ++ drop (length (cond x (b ∷ digitsAt k bs) [])) (b ∷ bs)
     go true e = ap {B = List ℕ} (λ l. b ∷ l) e
     go false e = refl
 

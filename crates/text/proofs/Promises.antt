@@ -51,7 +51,7 @@ accepted-fills {text} {rows} {rows′} {h} t =
     )
 
 -- A refused reading gives no rows.
-none-read : (text : List ℕ) (lent : ℕ) (x : Refusal) → Refused x ≡ readingOf text lent → rowsRead text lent ≡ []
+pub none-read : (text : List ℕ) (lent : ℕ) (x : Refusal) → Refused x ≡ readingOf text lent → rowsRead text lent ≡ []
 unfolding rowsRead rowsAt
 none-read text lent x e = ap (λ (r : Reading). rowsAt (filled r) (bodyOf text)) (sym e)
 

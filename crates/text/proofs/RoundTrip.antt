@@ -9,9 +9,9 @@ use mathlib.Core.Path.{_≡_, refl, _∙_, ap, sym}
 use mathlib.Core.Bool.{Bool, true, false, cond}
 use mathlib.Core.Logic.{_↔_}
 use mathlib.Core.List.{List, [], _∷_, _++_}
-use Prim.Native.Nat.{ℕ, zero, suc, _+_, _*_, _≤_, _<_}
+use Prim.Native.Nat.{ℕ, zero, suc, _+_, _≤_, _<_}
 use native.Mathlib.Omega.{arith}
-use borrow.Author.Tests.{lt-ltb, le-ltb, ltb-false, ne-eqb, eqb-true, eqb-false}
+use borrow.Author.Tests.{lt-ltb, le-ltb, ltb-false, ne-eqb, eqb-true}
 use lib.Dec.{eqb, ltb}
 use lib.ListN.{length, drop, length-append}
 use Rattle.table.specs.Table.{refuse}
@@ -19,19 +19,20 @@ use Rattle.table.specs.declared.Row.{Row}
 use Rattle.table.specs.declared.Refusal.{Refusal}
 use Rattle.text.specs.declared.Header.{Header}
 use Rattle.text.specs.declared.Reading.the-variants.{Read, Refused}
-use Rattle.text.specs.Text.{nodes-key, rows-key, width, line, rowText, rowsText, textOf, RowFits, RowsFit, TableFits, lineValue, lineGood, lineRest, wrongInRow, rowAt, pastRow, wrongLine, rowsAt, nodesIn, rowsIn, bodyOf, readingOfRows, readingOfBody, readingOf, rowsRead, areaAfter}
+use Rattle.text.specs.Text.{nodes-key, rows-key, width, line, rowText, rowsText, textOf, row-keys, RowsFit, TableFits, lineValue, lineGood, lineRest, behindLines, wrongLine, rowsKeys, rowAt, rowsAt, nodesIn, rowsIn, bodyOf, readingOfRows, readingOfBody, readingOf, rowsRead, areaAfter}
 use Rattle.text.proofs.Lines.{line-length, line-found, line-stands}
-use Rattle.text.proofs.RowLaws.{wrong-none, none-wrong, row-stands, row-fits, row-found}
-use Rattle.text.proofs.Lengths.{line-most, row-most}
+use Rattle.text.proofs.RowLaws.{right-on, none-wrong, row-stands, row-fits, row-found}
+use Rattle.text.proofs.Lengths.{line-most, rows-long}
 
 -- The lines of rows are read as those rows, and nothing is wrong with them.
-rows-back : (rows : List Row) (l : ℕ) → RowsFit rows → (wrongLine (length rows) (rowsText rows) l ≡ 0) × (rowsAt (length rows) (rowsText rows) ≡ rows)
-unfolding rowsText wrongLine rowsAt
+rows-back : (rows : List Row) (l : ℕ) → RowsFit rows
+    → (wrongLine (rowsKeys (length rows)) (rowsText rows) l ≡ 0) × (rowsAt (length rows) (rowsText rows) ≡ rows)
+unfolding rowsText rowsKeys wrongLine rowsAt
 rows-back [] l f = (refl, refl)
 rows-back (r ∷ rs) l f =
     let found = row-found r (rowsText rs) (f .0) in
-    let rest = rows-back rs (l + 3) (f .1) in
-    (rw (wrong-none (rowText r ++ rowsText rs) l (found .0), found .2) (rest .0), rw (found .1, found .2, rest .1))
+    let rest = rows-back rs (l + length row-keys) (f .1) in
+    (right-on row-keys (rowsKeys (length rs)) (rowText r ++ rowsText rs) l (found .right) ∙ rw (found .past) (rest .0), rw (found .row, found .past, rest .1))
 
 module _ (n : ℕ) (rows : List Row) (lent : ℕ) (fits : TableFits n rows lent) where
   small-count : length rows ≤ 65535
@@ -58,21 +59,19 @@ module _ (n : ℕ) (rows : List Row) (lent : ℕ) (fits : TableFits n rows lent)
   read-back = (reading-is, rows-are)
 
 -- Where nothing is wrong with the lines of n rows, they are the lines of the rows that they say, and nothing follows.
-rows-again : (n : ℕ) (text : List ℕ) (l : ℕ) → 0 < l → wrongLine n text l ≡ 0 → (text ≡ rowsText (rowsAt n text)) × (length (rowsAt n text) ≡ n) × RowsFit (rowsAt n text)
-unfolding rowsText wrongLine rowsAt
+rows-again : (n : ℕ) (text : List ℕ) (l : ℕ) → 0 < l → wrongLine (rowsKeys n) text l ≡ 0
+    → (text ≡ rowsText (rowsAt n text)) × (length (rowsAt n text) ≡ n) × RowsFit (rowsAt n text)
+unfolding rowsText rowsKeys wrongLine rowsAt
 rows-again zero [] l h e = (refl, refl, tt)
 rows-again zero (b ∷ bs) l h e = absurd (omega (arith, last e))
   where
     last : cond (eqb (suc (length bs)) 0) 0 l ≡ 0 → l ≡ 0
     last e = rw (ne-eqb (suc (length bs)) 0 (λ s. omega arith)) at e
-rows-again (suc n) text l h e = go (eqb (wrongInRow text l) 0) refl e (rows-again n (pastRow text) (l + 3) (omega arith))
-  where
-    go : (b : Bool) → eqb (wrongInRow text l) 0 ≡ b → cond b (wrongLine n (pastRow text) (l + 3)) (wrongInRow text l) ≡ 0 → (wrongLine n (pastRow text) (l + 3) ≡ 0 → (pastRow text ≡ rowsText (rowsAt n (pastRow text))) × (length (rowsAt n (pastRow text)) ≡ n) × RowsFit (rowsAt n (pastRow text))) → (text ≡ rowText (rowAt text) ++ rowsText (rowsAt n (pastRow text))) × (suc (length (rowsAt n (pastRow text))) ≡ suc n) × (RowFits (rowAt text) × RowsFit (rowsAt n (pastRow text)))
-    go false s w rec = absurd (eqb-false (wrongInRow text l) 0 s w)
-    go true s w rec =
-        let good = none-wrong text l h (eqb-true (wrongInRow text l) 0 s) in
-        let rest = rec w in
-        (row-stands text good ∙ ap (λ (t : List ℕ). rowText (rowAt text) ++ t) (rest .0), ap suc (rest .1), (row-fits text good, rest .2))
+rows-again (suc n) text l h e =
+    let right = none-wrong row-keys (rowsKeys n) text l h e in
+    let on = sym (right-on row-keys (rowsKeys n) text l right) ∙ e in
+    let rest = rows-again n (behindLines row-keys text) (l + length row-keys) (omega arith) on in
+    (row-stands text right ∙ ap (λ (t : List ℕ). rowText (rowAt text) ++ t) (rest .0), ap suc (rest .1), (row-fits text right, rest .2))
 
 -- What an accepted reading says of its text.
 record Accepted (text : List ℕ) (lent : ℕ) (h : Header) : Type 0 where
@@ -80,7 +79,7 @@ record Accepted (text : List ℕ) (lent : ℕ) (h : Header) : Type 0 where
   second : lineGood rows-key (lineRest nodes-key text) ≡ true
   few : rowsIn text ≤ 512
   room : rowsIn text ≤ lent
-  right : wrongLine (rowsIn text) (bodyOf text) 3 ≡ 0
+  right : wrongLine (rowsKeys (rowsIn text)) (bodyOf text) 3 ≡ 0
   head : h ≡ record { nodes = nodesIn text; rows = rowsIn text }
 
 pub refused-not : (r : Refusal) (h : Header) → Refused r ≡ Read h → ⊥
@@ -92,12 +91,15 @@ accepted text lent h e =
     go (lineGood nodes-key text) (lineGood rows-key (lineRest nodes-key text)) (ltb 512 (rowsIn text)) (ltb lent (rowsIn text)) (eqb wrong 0) refl refl refl refl refl e
   where
     wrong : ℕ
-    wrong = wrongLine (rowsIn text) (bodyOf text) 3
+    wrong = wrongLine (rowsKeys (rowsIn text)) (bodyOf text) 3
 
     found : Header
     found = record { nodes = nodesIn text; rows = rowsIn text }
 
-    go : (a b c d f : Bool) → lineGood nodes-key text ≡ a → lineGood rows-key (lineRest nodes-key text) ≡ b → ltb 512 (rowsIn text) ≡ c → ltb lent (rowsIn text) ≡ d → eqb wrong 0 ≡ f → cond a (cond b (cond c (Refused (refuse 2 0 0)) (cond d (Refused (refuse 21 0 0)) (cond f (Read found) (Refused (refuse 20 wrong 0))))) (Refused (refuse 20 2 0))) (Refused (refuse 20 1 0)) ≡ Read h → Accepted text lent h
+    go : (a b c d f : Bool) → lineGood nodes-key text ≡ a → lineGood rows-key (lineRest nodes-key text) ≡ b
+        → ltb 512 (rowsIn text) ≡ c → ltb lent (rowsIn text) ≡ d → eqb wrong 0 ≡ f
+        → cond a (cond b (cond c (Refused (refuse 2 0 0)) (cond d (Refused (refuse 21 0 0)) (cond f (Read found) (Refused (refuse 20 wrong 0))))) (Refused (refuse 20 2 0))) (Refused (refuse 20 1 0)) ≡ Read h
+        → Accepted text lent h
     go false b c d f p q r s t e = absurd (refused-not _ h e)
     go true false c d f p q r s t e = absurd (refused-not _ h e)
     go true true true d f p q r s t e = absurd (refused-not _ h e)
@@ -155,15 +157,11 @@ read-iff-text text lent = (
   λ t. record { head = record { nodes = t .nodes; rows = length (t .rows) }; so = ap (λ (b : List ℕ). readingOf b lent) (t .so) ∙ read-back (t .nodes) (t .rows) lent (t .fits) .0 },
 )
 
-pub written-again : (text : List ℕ) (lent : ℕ) (h : Header) (area : List ℕ) → readingOf text lent ≡ Read h → length text ≤ length area → areaAfter (h .nodes) (rowsRead text lent) area ≡ text ++ drop (length text) area
+pub written-again : (text : List ℕ) (lent : ℕ) (h : Header) (area : List ℕ) → readingOf text lent ≡ Read h
+    → length text ≤ length area → areaAfter (h .nodes) (rowsRead text lent) area ≡ text ++ drop (length text) area
 unfolding areaAfter
 written-again text lent h area e room =
     rw (← write-back text lent h e, le-ltb 512 (length (rowsRead text lent)) (read-fits text lent h e .few), le-ltb (length area) (length text) room)
-
-rows-long : (rows : List Row) → length (rowsText rows) ≤ 30 * length rows
-unfolding rowsText
-rows-long [] = omega arith
-rows-long (r ∷ rs) = omega (arith, length-append (rowText r) (rowsText rs), row-most r, rows-long rs)
 
 count-width : (k : ℕ) → k ≤ 512 → width k ≤ 3
 unfolding width

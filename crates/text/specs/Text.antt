@@ -4,7 +4,7 @@ use mathlib.Core.Path.{_≡_}
 use mathlib.Core.Bool.{Bool, true, false, cond, _&&_}
 use mathlib.Core.List.{List, [], _∷_, _++_}
 use lib.Dec.{eqb, ltb, leb}
-use lib.ListN.{length, drop}
+use lib.ListN.{length, getD, drop}
 use Rattle.table.specs.Table.{refuse, most-rows}
 use Rattle.table.specs.Steps.{columns, listed}
 use Rattle.table.specs.declared.Row.{Row}
@@ -62,9 +62,26 @@ item key v mark = key ++ (numeral v ++ (mark ∷ []))
 unfoldable pub line : (key : List ℕ) → ℕ → List ℕ
 line key v = item key v line-feed
 
--- The three lines of a row: src, dst, due.
+-- The keys of a row's lines, in their order: a new line of a row joins here, and its value in the two definitions below.
+unfoldable pub row-keys : List (List ℕ)
+row-keys = src-key ∷ dst-key ∷ due-key ∷ []
+
+-- The values of a row, one for each of these keys, and the row that so many values make.
+abbrev pub values : Row → List ℕ
+values r = r .src ∷ r .dst ∷ r .due ∷ []
+
+abbrev pub rowBy : List ℕ → Row
+rowBy vs = record { src = getD vs 0 0; dst = getD vs 1 0; due = getD vs 2 0 }
+
+-- The lines of some keys with a value each, in order.
+unfoldable pub linesText : (keys : List (List ℕ)) (values : List ℕ) → List ℕ
+linesText [] vs = []
+linesText (k ∷ ks) [] = []
+linesText (k ∷ ks) (v ∷ vs) = line k v ++ linesText ks vs
+
+-- The lines of a row: src, dst, due.
 unfoldable pub rowText : Row → List ℕ
-rowText r = line src-key (r .src) ++ (line dst-key (r .dst) ++ line due-key (r .due))
+rowText r = linesText row-keys (values r)
 
 -- The lines of the rows, in order.
 unfoldable pub rowsText : List Row → List ℕ
@@ -75,15 +92,14 @@ rowsText (r ∷ rs) = rowText r ++ rowsText rs
 unfoldable pub textOf : (nodes : ℕ) → List Row → List ℕ
 textOf n rows = line nodes-key n ++ (line rows-key (length rows) ++ rowsText rows)
 
--- A row of 16-bit values.
-pub record RowFits (r : Row) : Type 0 where
-  pub src-fits : r .src ≤ greatest-value
-  pub dst-fits : r .dst ≤ greatest-value
-  pub due-fits : r .due ≤ greatest-value
+-- Values of 16 bits, and rows of such values.
+abbrev pub ValuesFit : List ℕ → Type 0
+ValuesFit [] = Unit {0}
+ValuesFit (v ∷ vs) = (v ≤ greatest-value) × ValuesFit vs
 
 abbrev pub RowsFit : List Row → Type 0
 RowsFit [] = Unit {0}
-RowsFit (r ∷ rs) = RowFits r × RowsFit rs
+RowsFit (r ∷ rs) = ValuesFit (values r) × RowsFit rs
 
 -- A table of 16-bit values and at most 512 rows, which a list of so many records can take.
 pub record TableFits (n : ℕ) (rows : List Row) (lent : ℕ) : Type 0 where
@@ -98,56 +114,71 @@ starts [] bytes = true
 starts (b ∷ bs) [] = false
 starts (b ∷ bs) (x ∷ xs) = eqb b x && starts bs xs
 
+-- Whether a byte is a digit.
+abbrev pub isDigit : ℕ → Bool
+isDigit b = leb digit-zero b && leb b 57
+
 -- The digits at the front of some bytes, at most k of them.
 unfoldable pub digitsAt : ℕ → List ℕ → List ℕ
 digitsAt zero bytes = []
 digitsAt (suc k) [] = []
-digitsAt (suc k) (b ∷ bs) = cond (leb digit-zero b && leb b 57) (b ∷ digitsAt k bs) []
+digitsAt (suc k) (b ∷ bs) = cond (isDigit b) (b ∷ digitsAt k bs) []
 
 -- The number that further digits make of v: each takes ten times what was there, and itself.
 unfoldable pub extended : ℕ → List ℕ → ℕ
 extended v [] = v
 extended v (d ∷ ds) = extended (v * 10 + (d - digit-zero)) ds
 
--- What the first line of a text says: the number of the digits behind its key, of which five are enough.
-unfoldable pub lineValue : (key text : List ℕ) → ℕ
-lineValue key text = extended 0 (digitsAt 5 (drop (length key) text))
+-- The number that stands behind a key at the front of a text: that of its digits, of which five are enough.
+unfoldable pub itemValue : (key text : List ℕ) → ℕ
+itemValue key text = extended 0 (digitsAt 5 (drop (length key) text))
 
--- Whether the first line is exactly so: a value of at most 65,535, and the line of that value stands there, byte by byte.
-unfoldable pub lineGood : (key text : List ℕ) → Bool
-lineGood key text = leb (lineValue key text) greatest-value && starts (line key (lineValue key text)) text
+-- Whether a number behind a key stands at the front, up to its mark, exactly so: it is at most 65,535, and the item of that number stands there, byte by byte.
+unfoldable pub itemGood : (key : List ℕ) (mark : ℕ) (text : List ℕ) → Bool
+itemGood key mark text =
+    let v = itemValue key text in leb v greatest-value && starts (item key v mark) text
 
--- The text behind its first line.
-unfoldable pub lineRest : (key text : List ℕ) → List ℕ
-lineRest key text = drop (length (line key (lineValue key text))) text
+-- The text behind that item.
+unfoldable pub itemRest : (key : List ℕ) (mark : ℕ) (text : List ℕ) → List ℕ
+itemRest key mark text = drop (length (item key (itemValue key text) mark)) text
 
--- The first of a row's three lines that is wrong, where the first of them has number l: 0 where none is.
-unfoldable pub wrongInRow : (text : List ℕ) (l : ℕ) → ℕ
-wrongInRow text l =
-    cond (lineGood src-key text)
-    (cond (lineGood dst-key (lineRest src-key text))
-    (cond (lineGood due-key (lineRest dst-key (lineRest src-key text))) 0 (l + 2))
-    (l + 1))
-    l
+-- A line is an item whose mark is a line feed: what the first line says, whether it is exactly so, and the text behind it.
+abbrev pub lineValue : (key text : List ℕ) → ℕ
+lineValue key text = itemValue key text
 
--- The row that three lines say.
+abbrev pub lineGood : (key text : List ℕ) → Bool
+lineGood key text = itemGood key line-feed text
+
+abbrev pub lineRest : (key text : List ℕ) → List ℕ
+lineRest key text = itemRest key line-feed text
+
+-- The values that the lines of some keys say.
+unfoldable pub valuesAt : (keys : List (List ℕ)) (text : List ℕ) → List ℕ
+valuesAt [] text = []
+valuesAt (k ∷ ks) text = lineValue k text ∷ valuesAt ks (lineRest k text)
+
+-- The text behind the lines of some keys.
+unfoldable pub behindLines : (keys : List (List ℕ)) (text : List ℕ) → List ℕ
+behindLines [] text = text
+behindLines (k ∷ ks) text = behindLines ks (lineRest k text)
+
+-- The first wrong line of the lines of some keys, the next of which has number l; bytes behind the last are a wrong line; 0 where none is.
+unfoldable pub wrongLine : (keys : List (List ℕ)) (text : List ℕ) (l : ℕ) → ℕ
+wrongLine [] text l = cond (eqb (length text) 0) 0 l
+wrongLine (k ∷ ks) text l = cond (lineGood k text) (wrongLine ks (lineRest k text) (suc l)) l
+
+-- The keys of the lines of n rows.
+unfoldable pub rowsKeys : ℕ → List (List ℕ)
+rowsKeys zero = []
+rowsKeys (suc n) = row-keys ++ rowsKeys n
+
+-- The row that the lines of a row say, and the rows that the lines of n rows say.
 unfoldable pub rowAt : List ℕ → Row
-rowAt text =
-    record { src = lineValue src-key text; dst = lineValue dst-key (lineRest src-key text); due = lineValue due-key (lineRest dst-key (lineRest src-key text)) }
+rowAt text = rowBy (valuesAt row-keys text)
 
--- The text behind the three lines of a row.
-unfoldable pub pastRow : List ℕ → List ℕ
-pastRow text = lineRest due-key (lineRest dst-key (lineRest src-key text))
-
--- The first wrong line of the lines of n rows, the next of which has number l; bytes behind the last are a wrong line; 0 where none is.
-unfoldable pub wrongLine : (n : ℕ) (text : List ℕ) (l : ℕ) → ℕ
-wrongLine zero text l = cond (eqb (length text) 0) 0 l
-wrongLine (suc n) text l = cond (eqb (wrongInRow text l) 0) (wrongLine n (pastRow text) (l + 3)) (wrongInRow text l)
-
--- The rows that the lines of n rows say.
 unfoldable pub rowsAt : (n : ℕ) → List ℕ → List Row
 rowsAt zero text = []
-rowsAt (suc n) text = rowAt text ∷ rowsAt n (pastRow text)
+rowsAt (suc n) text = rowAt text ∷ rowsAt n (behindLines row-keys text)
 
 -- The number of nodes, the number of rows, and the text of the rows: what lines 1 and 2 say, and what is behind them.
 unfoldable pub nodesIn : List ℕ → ℕ
@@ -162,7 +193,7 @@ bodyOf text = lineRest rows-key (lineRest nodes-key text)
 -- What the lines from 3 on come to: 20 with the number of the first wrong line, or the table's head.
 unfoldable pub readingOfRows : (nodes rows : ℕ) → List ℕ → Reading
 readingOfRows n k body =
-    let wrong = wrongLine k body 3 in
+    let wrong = wrongLine (rowsKeys k) body 3 in
     cond (eqb wrong 0) (Read (record { nodes = n; rows = k })) (Refused (refuse 20 wrong 0))
 
 -- Directly after line 2: 2 for more than 512 rows, then 21 if the lent list is too short, then the lines of the rows.

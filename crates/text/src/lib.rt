@@ -1,12 +1,15 @@
+// The table as text: what reading and writing come to, the lines of a row by their keys, and bytes written at a place of an area.
 ghost use mathlib.Core.Path.{_≡_};
-ghost use Prim.Native.Nat.{_+_, _%_, _≤_};
-ghost use lib.ListN.{length, drop};
+ghost use mathlib.Core.List.{[]};
+ghost use Prim.Native.Nat.{_+_, _%_, _≤_, _<_};
+ghost use lib.ListN.{length, getD, drop};
 ghost use Rattle.table.specs.Table.{refuse};
-ghost use Rattle.text.specs.Text.{starts, width, numeral, item, line, digit-zero};
+ghost use Rattle.text.specs.Text.{starts, width, numeral, item, line, digit-zero, row-keys, values, rowBy};
 ghost use Rattle.text.specs.Steps.{tenth, pasted};
 use ring::Slot;
 use table::Columns;
 use table::Refusal;
+use table::Row;
 
 // The head of a table that was read: the number of nodes and the number of rows.
 pub struct Header {
@@ -31,6 +34,42 @@ pub struct Parsed {
 pub enum Writing {
     Written(usize),
     Refused(Refusal),
+}
+
+// How many lines a row has.
+pub const ROW_LINES: usize = 3;
+
+// The keys of a row's lines, in their order: src=, dst=, due=.
+const ROW_KEYS: [[u8; 4]; ROW_LINES] = [
+    [115, 114, 99, 61],
+    [100, 115, 116, 61],
+    [100, 117, 101, 61],
+];
+
+// The key of line j of a row, counted from 0.
+pub fn row_key(j: usize) -> [u8; 4]
+    requires { ⌜ j < length row-keys ⌝ }
+    ensures { λ r. ⌜ r ≡ getD row-keys j [] ⌝ }
+{
+    ROW_KEYS[j]
+}
+
+// The values of a row, in the order of its lines.
+pub fn values_of(row: Row) -> [u16; ROW_LINES]
+    ensures { λ r. ⌜ r ≡ values row ⌝ }
+{
+    [row.src, row.dst, row.due]
+}
+
+// The row of such values.
+pub fn row_by(values: [u16; ROW_LINES]) -> Row
+    ensures { λ r. ⌜ r ≡ rowBy values ⌝ }
+{
+    Row {
+        src: values[0],
+        dst: values[1],
+        due: values[2],
+    }
 }
 
 // How many digits a number has.

@@ -1,4 +1,3 @@
-mod Listed
-mod Placing
+mod Left
 mod Outcomes
 pub mod Lent

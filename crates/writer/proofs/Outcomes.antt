@@ -15,7 +15,7 @@ use Rattle.text.specs.declared.Writing.the-variants.{Written, Refused as NotWri
 use Rattle.text.specs.Text.{nodes-key, rows-key, line, rowsText, textOf, writingOf, areaAfter}
 use Rattle.text.specs.Steps.{pasted}
 use Rattle.text.proofs.Lengths.{line-most}
-use Rattle.writer.proofs.Listed.{rows-most}
+use Rattle.writer.proofs.Left.{rows-most}
 
 module _ (n rows : ℕ) (c : Columns) (area : List ℕ) where
   abbrev table : List Row
@@ -33,7 +33,7 @@ module _ (n rows : ℕ) (c : Columns) (area : List ℕ) where
   text-length = ap length text-is ∙ simp length-append (omega arith)
 
   pub text-most : rows ≤ 512 → length (line nodes-key n) + length (line rows-key rows) + length (rowsText table) ≤ 15383
-  text-most h = omega (arith, line-most nodes-key n, line-most rows-key rows, rows-most c rows)
+  text-most h = omega (arith, line-most nodes-key n, line-most rows-key rows, rows-most rows c)
 
   module _ (few : rows ≤ 512) where
     pub no-room : length area < length (textOf n table) → (NotWritten (refuse 22 0 0) ≡ writingOf n table (length area)) × (area ≡ areaAfter n table area)

@@ -1,15 +1,19 @@
+// Writes the text of a table: it counts the bytes first, and then writes line by line.
 ghost use mathlib.Core.Path.{_≡_};
 ghost use Prim.Native.Nat.{_+_, _≤_};
 ghost use lib.ListN.{length};
 ghost use Rattle.table.specs.Steps.{listed};
 ghost use Rattle.text.specs.Text.{line, rowText, rowsText, writingOf, areaAfter, TextPut};
-ghost use Rattle.text.specs.Steps.{pasted, held};
+ghost use Rattle.text.specs.Steps.{pasted, Put, Room, held};
 use lent::load;
 use table::Columns;
 use table::Row;
+use text::ROW_LINES;
 use text::Writing;
 use text::not_written;
 use text::put_line;
+use text::row_key;
+use text::values_of;
 use text::width_of;
 
 // The length of a line.
@@ -20,21 +24,35 @@ fn line_length(key: &[u8], v: u16) -> usize
     key.len() + width_of(v as u32) + 1
 }
 
-// The length of a row's three lines.
+// The length of a row's lines.
 fn row_length(row: Row) -> usize
     ensures { λ r. ⌜ r ≡ length (rowText row) ⌝ }
 {
-    line_length(b"src=", row.src) + line_length(b"dst=", row.dst) + line_length(b"due=", row.due)
+    let values = values_of(row);
+    let mut sum = 0;
+    let mut j = 0;
+    while j < ROW_LINES {
+        let key = row_key(j);
+        sum += line_length(&key, values[j]);
+        j += 1;
+    }
+    sum
 }
 
-// Writes a row's three lines at a place, and returns the place behind them.
+// Writes a row's lines at a place, and returns the place behind them.
 fn put_row(area: &mut [u8], at: usize, row: Row) -> usize
-    requires { ⌜ at + length (rowText row) ≤ length (now area) ⌝ }
-    ensures { λ r. ⌜ (r ≡ at + length (rowText row)) × (now (area .exit) ≡ pasted (now (area .entry)) at (rowText row)) ⌝ }
+    requires { ⌜ Room (now area) at (rowText row) ⌝ }
+    ensures { λ r. ⌜ Put (now (area .entry)) at (rowText row) r (now (area .exit)) ⌝ }
 {
-    let second = put_line(area, at, b"src=", row.src);
-    let third = put_line(area, second, b"dst=", row.dst);
-    put_line(area, third, b"due=", row.due)
+    let values = values_of(row);
+    let mut next = at;
+    let mut j = 0;
+    while j < ROW_LINES {
+        let key = row_key(j);
+        next = put_line(area, next, &key, values[j]);
+        j += 1;
+    }
+    next
 }
 
 // The length of the lines of so many rows.

@@ -3,7 +3,10 @@
 use Prim.Native.Nat.{_-_}
 use native.Mathlib.Omega.{arith}
 use borrow.Author.Needs.{needs}
-use Rattle.reader.proofs.Loading.{Loaded, row-broken, row-whole, none-loaded, more-loaded, stopped-at, left-over, all-loaded}
+use Rattle.text.specs.Text.{row-keys}
+use Rattle.lines.proofs.Rows.{row-lines}
+use Rattle.lines.proofs.Passed.{row-broken, row-whole}
+use Rattle.reader.proofs.Loading.{Loaded, none-loaded, more-loaded, stopped-at, left-over, all-loaded}
 use Rattle.reader.proofs.read_rows.Statement.{statement}
 use Rattle.reader.proofs.read_rows.Tie as tie
 
@@ -32,7 +35,7 @@ add-result c =
     let s = c .before .before .before .row-at in
     let g = c .before .k .given in
     let broken = row-broken text (k .at) (s .result) (s .ensures) (g .0 .0) (g .1) in
-    omega (arith, broken .0, k .inv .counted)
+    omega (arith, broken .0, k .inv .counted, row-lines .1)
 
 returns : tie.Need-returns Inv-loop μ-loop
 returns c =
@@ -41,7 +44,7 @@ returns c =
     let s = c .before .before .before .row-at in
     let g = c .before .k .given in
     let broken = row-broken text (k .at) (s .result) (s .ensures) (g .0 .0) (g .1) in
-    stopped-at (k .inv) (c .before .before .before .before .loop-test .taken) (g .0 .0) (broken .1)
+    stopped-at (k .inv) (c .before .before .before .before .loop-test .taken) (g .0 .0) broken
 
 enum-known-row : tie.Need-enum-known-row Inv-loop μ-loop
 enum-known-row c = search needs
@@ -64,6 +67,9 @@ mul-due c = search needs
 element-write-due : tie.Need-element-write-due Inv-loop μ-loop
 element-write-due c = search needs
 
+cast-line : tie.Need-cast-line Inv-loop μ-loop
+cast-line c = search needs
+
 add-line : tie.Need-add-line Inv-loop μ-loop
 add-line c = search needs
 
@@ -74,6 +80,7 @@ loop-less : tie.Need-loop-less Inv-loop μ-loop
 loop-less c = search needs
 
 loop-again : tie.Need-loop-again Inv-loop μ-loop
+unfolding row-keys
 loop-again c =
     let text = c .before .before .before .before .before .before .before .args .text .now in
     let k = c .before .before .before .before .before .loop in
@@ -106,6 +113,7 @@ read-rows-spec =
     element-write-dst
     mul-due
     element-write-due
+    cast-line
     add-line
     add-i
     loop-less

@@ -5,7 +5,7 @@ use Prim.Native.Nat.{_-_, _≤_}
 use native.Mathlib.Omega.{arith}
 use lib.ListN.{length, drop}
 use Rattle.report.specs.Report.{arriveLines}
-use Rattle.report.proofs.Putting.{Putting, begun, as-long, all-put}
+use Rattle.text.proofs.Putting.{Putting, begun, as-long, all-put}
 use Rattle.report.proofs.Lines.{no-arrive}
 use Rattle.report.proofs.Listing.{arrive-fits, arrive-put}
 use borrow.Author.Needs.{needs}

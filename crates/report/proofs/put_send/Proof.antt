@@ -5,7 +5,7 @@ use Prim.Native.Nat.{_-_, _≤_}
 use native.Mathlib.Omega.{arith}
 use lib.ListN.{length, drop}
 use Rattle.report.specs.Report.{parted}
-use Rattle.report.proofs.Putting.{Putting, as-long}
+use Rattle.text.proofs.Putting.{Putting, as-long}
 use Rattle.report.proofs.Sending.{first-fits, first-long, others-begun, line-put, entry-fits, entry-put}
 use borrow.Author.Needs.{needs}
 use Rattle.report.proofs.put_send.Statement.{statement}

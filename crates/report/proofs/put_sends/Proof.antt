@@ -4,7 +4,7 @@ use Prim.Native.Nat.{_-_, _*_, _≤_}
 use native.Mathlib.Omega.{arith}
 use lib.ListN.{drop}
 use Rattle.report.specs.Report.{sendLines}
-use Rattle.report.proofs.Putting.{Putting, begun, as-long, all-put}
+use Rattle.text.proofs.Putting.{Putting, begun, as-long, all-put}
 use Rattle.report.proofs.Lines.{slot-ends, slot-small, slot-some, no-send, all-sends}
 use Rattle.report.proofs.Listing.{send-fits, send-put}
 use borrow.Author.Needs.{needs}

@@ -1,14 +1,23 @@
 -- `writer::put_rows` meets its contract: after i turns the lines of the first i rows stand at their place.
 -- Assumes nothing.
-use Prim.Native.Nat.{_-_}
+use mathlib.Core.Path.{refl}
+use Prim.Native.Nat.{_+_, _-_, _≤_}
+use native.Mathlib.Omega.{arith}
 use borrow.Author.Needs.{needs}
+use lib.ListN.{drop}
+use Rattle.table.specs.Steps.{listed}
+use Rattle.table.proofs.Rows.{rowOf}
+use Rattle.text.specs.Text.{rowText, rowsText}
 use Rattle.text.specs.Steps.{held}
-use Rattle.writer.proofs.Placing.{Filled, none-filled, next-fits, more-filled, filled-long, all-filled}
+use Rattle.text.proofs.Putting.{Putting, begun, fits, put-on, as-long, all-put}
+use Rattle.writer.proofs.Left.{rows-next, no-rows}
 use Rattle.writer.proofs.put_rows.Statement.{statement}
 use Rattle.writer.proofs.put_rows.Tie as tie
 
 abbrev Inv-loop : tie.InvT-loop
-Inv-loop area₀ from rows src dst due at₀ i₀ area at i = Filled area₀ from rows (held src dst due) area at i
+Inv-loop area₀ from rows src dst due at₀ i₀ area at i =
+    let all = listed rows (held src dst due) in
+    (i ≤ rows) × Putting area₀ from (rowsText all) area at (rowsText (drop i all))
 
 abbrev μ-loop : tie.MeasureT-loop
 μ-loop area₀ from rows src dst due at₀ i₀ area at i = rows - i
@@ -16,7 +25,8 @@ abbrev μ-loop : tie.MeasureT-loop
 loop-holds : tie.Need-loop-holds Inv-loop μ-loop
 loop-holds c =
     let a = c .before .args in
-    none-filled (a .area .now) (a .from) (a .rows) (held (a .src .now) (a .dst .now) (a .due .now))
+    let whole = rowsText (listed (a .rows) (held (a .src .now) (a .dst .now) (a .due .now))) in
+    (omega arith, begun (a .area .now) (a .from) whole whole (c .before .pre .1) refl)
 
 mul-t12 : tie.Need-mul-t12 Inv-loop μ-loop
 mul-t12 c = search needs
@@ -37,7 +47,13 @@ element-copy-out-t23 : tie.Need-element-copy-out-t23 Inv-loop μ-loop
 element-copy-out-t23 c = search needs
 
 put-row-requires : tie.Need-put-row-requires Inv-loop μ-loop
-put-row-requires c κs = next-fits (c .before .before .before .before .before .loop .inv) (c .before .before .before .before .before .before .before .pre .1) (c .before .before .before .before .loop-test .taken)
+put-row-requires c κs =
+    let a = c .before .before .before .before .before .before .before .args in
+    let cols = held (a .src .now) (a .dst .now) (a .due .now) in
+    let k = c .before .before .before .before .before .loop in
+    let rest = rowsText (drop (k .i + 1) (listed (a .rows) cols)) in
+    let next = rows-next (a .rows) cols (k .i) (omega arith) in
+    fits (k .inv .1) (rowText (rowOf cols (k .i))) rest next
 
 add-i : tie.Need-add-i Inv-loop μ-loop
 add-i c = search needs
@@ -47,14 +63,22 @@ loop-less c = search needs
 
 loop-again : tie.Need-loop-again Inv-loop μ-loop
 loop-again c =
-    let p = c .before .before .put-row in
-    more-filled (c .before .before .before .before .before .before .before .before .loop .inv) (c .before .before .before .before .before .before .before .before .before .before .pre .1) (c .before .before .before .before .before .before .before .loop-test .taken) (p .last .0) (p .result) (p .ensures .0) (p .ensures .1)
+    let a = c .before .before .before .before .before .before .before .before .before .before .args in
+    let cols = held (a .src .now) (a .dst .now) (a .due .now) in
+    let k = c .before .before .before .before .before .before .before .before .loop in
+    let rest = rowsText (drop (k .i + 1) (listed (a .rows) cols)) in
+    let next = rows-next (a .rows) cols (k .i) (omega arith) in
+    (omega arith, put-on (k .inv .1) (rowText (rowOf cols (k .i))) rest next (c .before .before .put-row .ensures))
 
 same-length : tie.Need-same-length Inv-loop μ-loop
-same-length c = filled-long (c .before .loop .inv) (c .before .before .before .pre .1)
+same-length c = as-long (c .before .loop .inv .1)
 
 returns : tie.Need-returns Inv-loop μ-loop
-returns c = all-filled (c .before .loop .inv) (c .before .before .before .pre .1) (c .loop-test .left)
+returns c =
+    let a = c .before .before .before .args in
+    let cols = held (a .src .now) (a .dst .now) (a .due .now) in
+    let k = c .before .loop in
+    all-put (k .inv .1) (no-rows (a .rows) cols (k .i) (omega arith)) .so
 
 pub put-rows-spec : {M : Type 1} → statement M
 put-rows-spec =

@@ -1,28 +1,28 @@
 -- `writer::rows_length` meets its contract: after i turns it is the length of the first i rows' lines.
 -- Assumes nothing.
-use mathlib.Core.Path.{_≡_, _∙_}
-use Prim.Native.Nat.{_≤_, _-_}
+use mathlib.Core.Path.{_≡_, ap}
+use Prim.Native.Nat.{_+_, _≤_, _-_}
 use native.Mathlib.Omega.{arith}
 use borrow.Author.Needs.{needs}
-use lib.ListN.{length}
+use lib.ListN.{length, drop, length-append}
 use Rattle.table.specs.Steps.{listed}
 use Rattle.table.proofs.Rows.{rowOf}
-use Rattle.text.specs.Text.{rowsText}
+use Rattle.text.specs.Text.{rowText, rowsText}
 use Rattle.text.specs.Steps.{held}
-use Rattle.text.proofs.Lengths.{row-most}
-use Rattle.writer.proofs.Listed.{rows-length-more, rows-most}
+use Rattle.writer.proofs.Left.{rows-next, no-rows, rows-most}
 use Rattle.writer.proofs.rows_length.Statement.{statement}
 use Rattle.writer.proofs.rows_length.Tie as tie
 
 abbrev Inv-loop : tie.InvT-loop
-Inv-loop rows src dst due sum₀ i₀ sum i = (i ≤ rows) × (sum ≡ length (rowsText (listed i (held src dst due))))
+Inv-loop rows src dst due sum₀ i₀ sum i =
+    let all = listed rows (held src dst due) in
+    (i ≤ rows) × (sum + length (rowsText (drop i all)) ≡ length (rowsText all))
 
 abbrev μ-loop : tie.MeasureT-loop
 μ-loop rows src dst due sum₀ i₀ sum i = rows - i
 
 loop-holds : tie.Need-loop-holds Inv-loop μ-loop
-unfolding rowsText listed
-loop-holds c = search needs
+loop-holds c = (omega arith, omega arith)
 
 mul-t9 : tie.Need-mul-t9 Inv-loop μ-loop
 mul-t9 c = search needs
@@ -47,8 +47,12 @@ row-length-requires c κs = search needs
 
 add-sum : tie.Need-add-sum Inv-loop μ-loop
 add-sum c =
-    let cols = held (c .before .before .before .before .before .before .args .src .now) (c .before .before .before .before .before .before .args .dst .now) (c .before .before .before .before .before .before .args .due .now) in
-    omega (arith, rows-most cols (c .before .before .before .before .before .loop .i), row-most (rowOf cols (c .before .before .before .before .before .loop .i)), c .row-length .ensures)
+    let s = c .before .before .before .before .before .before .args in
+    let cols = held (s .src .now) (s .dst .now) (s .due .now) in
+    let k = c .before .before .before .before .before .loop in
+    let next = rows-next (s .rows) cols (k .i) (omega arith) in
+    let parts = length-append (rowText (rowOf cols (k .i))) (rowsText (drop (k .i + 1) (listed (s .rows) cols))) in
+    omega (arith, ap length next, parts, rows-most (s .rows) cols, c .row-length .ensures)
 
 add-i : tie.Need-add-i Inv-loop μ-loop
 add-i c = search needs
@@ -58,15 +62,18 @@ loop-less c = search needs
 
 loop-again : tie.Need-loop-again Inv-loop μ-loop
 loop-again c =
-    let cols = held (c .before .before .before .before .before .before .args .src .now) (c .before .before .before .before .before .before .args .dst .now) (c .before .before .before .before .before .before .args .due .now) in
-    let more = rows-length-more cols (c .before .before .before .before .before .loop .i) in
-    let one = c .row-length .ensures in
-    (omega arith, omega (arith, more, one))
+    let s = c .before .before .before .before .before .before .args in
+    let cols = held (s .src .now) (s .dst .now) (s .due .now) in
+    let k = c .before .before .before .before .before .loop in
+    let next = rows-next (s .rows) cols (k .i) (omega arith) in
+    let parts = length-append (rowText (rowOf cols (k .i))) (rowsText (drop (k .i + 1) (listed (s .rows) cols))) in
+    (omega arith, omega (arith, ap length next, parts, c .row-length .ensures))
 
 returns : tie.Need-returns Inv-loop μ-loop
 returns c =
-    let all : c .before .loop .i ≡ c .before .before .args .rows = omega arith in
-    c .before .loop .inv .1 ∙ rw all
+    let s = c .before .before .args in
+    let cols = held (s .src .now) (s .dst .now) (s .due .now) in
+    omega (arith, ap length (no-rows (s .rows) cols (c .before .loop .i) (omega arith)))
 
 pub rows-length-spec : {M : Type 1} → statement M
 rows-length-spec =

@@ -12,7 +12,7 @@ use lib.Dec.{leb, ltb}
 use lib.ListN.{length, getD, drop, drop-of-length-le}
 use lib.Seq.{drop-cons}
 use Rattle.text.specs.Text.{digitsAt, extended}
-use Rattle.reader.specs.Steps.{figuresIn}
+use Rattle.lines.specs.Items.{figuresIn}
 
 nothing-there : (k : ℕ) → digitsAt k [] ≡ []
 unfolding digitsAt
@@ -64,7 +64,8 @@ module _ {text : List ℕ} {at value i : ℕ} (k : Read text at value i) where
           stopped (rw none)
 
   module _ (more : i < 5) (here : at + i < length text) where
-    no-digit : (leb 48 (getD text (at + i) 0) && leb (getD text (at + i) 0) 57) ≡ false → digitsAt (5 - i) (drop (at + i) text) ≡ []
+    no-digit : (leb 48 (getD text (at + i) 0) && leb (getD text (at + i) 0) 57) ≡ false
+        → digitsAt (5 - i) (drop (at + i) text) ≡ []
     unfolding digitsAt
     no-digit e = let left : 5 - i ≡ suc (4 - i) = omega arith in rw (left, drop-cons text (at + i) 0 here, e)
 
@@ -74,7 +75,8 @@ module _ {text : List ℕ} {at value i : ℕ} (k : Read text at value i) where
     pub above : 57 < getD text (at + i) 0 → record { value = value; count = i } ≡ figuresIn (drop at text)
     above h = stopped (no-digit (rw (lt-leb (getD text (at + i) 0) 57 h, and-false)))
 
-    pub further : 48 ≤ getD text (at + i) 0 → getD text (at + i) 0 ≤ 57 → Read text at (value * 10 + (getD text (at + i) 0 - 48)) (i + 1)
+    pub further : 48 ≤ getD text (at + i) 0 → getD text (at + i) 0 ≤ 57
+        → Read text at (value * 10 + (getD text (at + i) 0 - 48)) (i + 1)
     unfolding digitsAt extended
     further l h =
         let left : 5 - i ≡ suc (5 - (i + 1)) = omega arith in
