@@ -124,14 +124,15 @@ count-into {P} d m f (suc k) {Q} e to one =
         → tally a + count k d ≤ count m e
     go (yes p) more =
         let last = to k (omega arith) p in
-        let others =
-        more (λ i. Q i × (i ≡ f k → ⊥)) rest
-        (λ i l r. let sent = to i (omega arith) r in (sent .0, (sent .1, λ s. apart i l r s))) in
+        let others = more (λ i. Q i × (i ≡ f k → ⊥)) rest elsewhere in
         let fewer = count-lacking rest e m (f k) (λ i l r. r .0) (last .0) (last .1) (λ r. r .1 refl) in
         omega (arith, tally-one (yes p) p)
       where
         apart : (i : ℕ) → i < k → P i → f i ≡ f k → ⊥
         apart i l r s = omega (arith, one i k (omega arith) (omega arith) r p s)
+
+        elsewhere : (i : ℕ) → i < k → P i → (f i < m) × (Q (f i) × (f i ≡ f k → ⊥))
+        elsewhere i l r = let sent = to i (omega arith) r in (sent .0, (sent .1, apart i l r))
     go (no p) more = omega (arith, tally-none (no p) p, more Q e (λ i l r. to i (omega arith) r))
 
 -- The count with the first number split off instead of the last.

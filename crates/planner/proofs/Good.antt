@@ -178,10 +178,11 @@ module _ {n : ℕ} {src dst due : List ℕ}
         let stop = stopOf (traffic n dst due) start last in
         let on-time = eqb (stop .row) 0 in
         let carried : part ≡ cond on-time (thePlan n rows) (replicate (n * last) 0) = ran .carries ∙ rw its-plan in
-        let arrived : stamps ≡ cond on-time (theArrivals n rows) (replicate (length src) 0) =
-        ran .arrives ∙ rw (its-arrivals, start-long) in
-        let long : length (theArrivals n rows) ≡ length src =
-        ap length its-arrivals ∙ arrivals-long (traffic n dst due) start last ∙ start-long in
+        let given = theArrivals n rows in
+        let many = length src in
+        let arrived : stamps ≡ cond on-time given (replicate many 0) = ran .arrives ∙ rw (its-arrivals, start-long) in
+        let its-length = arrivals-long (traffic n dst due) start last in
+        let long : length given ≡ many = ap length its-arrivals ∙ its-length ∙ start-long in
         record {
           answers = ran .answers ∙ sym (its-answer p a);
           fills-plan =

@@ -175,8 +175,8 @@ module _ {n : ℕ} {rows : List Row} {plan arrivals plan′ arrivals′ : List �
       let stop = stopOf T start slots in
       let ends = stop-first T start slots in
       let is-late : stop .row ≡ 0 → ⊥ = late-then (ap numberOf e) in
-      let named : refuse 9 (stop .row) (stop .slot .0) ≡ refuse 9 row t =
-      inside (sym (decided ∙ rw (ne-eqb (stop .row) 0 is-late)) ∙ e) in
+      let refused : r ≡ Refused (refuse 9 (stop .row) (stop .slot .0)) = decided ∙ rw (ne-eqb (stop .row) 0 is-late) in
+      let named : refuse 9 (stop .row) (stop .slot .0) ≡ refuse 9 row t = inside (sym refused ∙ e) in
       let same-row : stop .row ≡ row = ap (λ x. x .row) named in
       let same-slot : stop .slot .0 ≡ t = ap (λ x. x .slot .0) named in (
         λ u l. ends .none-late-before u (omega arith),

@@ -132,8 +132,8 @@ module _ {n : ℕ} {rows : List Row} {plan arrivals plan′ arrivals′ : List �
   unfolding areaAfter theArrivals arrivalsOf
   its-arrival i known =
       let given = theArrivals n rows in
-      let filled : arrivals′ ≡ given ++ drop (length given) arrivals =
-      out .fills-arrivals ∙ rw (accepted-with accepted-is-plannable out accepted) in
+      let carries = accepted-with accepted-is-plannable out accepted in
+      let filled : arrivals′ ≡ given ++ drop (length given) arrivals = out .fills-arrivals ∙ rw carries in
       let inside : i < length given = omega (arith, arrivals-long T start (lastDue rows)) in
       ap (λ area. getD area i 0) filled ∙ List·getD-append given (drop (length given) arrivals) 0 i inside
       ∙ getD-build (length start) (λ j. deliveredFrom T start j (lastDue rows) 0) i 0 known
