@@ -1,4 +1,4 @@
--- A proved outcome whose answer is flattened is the panel's: `flat-planned`, `flat-read`, `flat-written`, `flat-opened`, `flat-edited` and `flat-put`.
+-- A proved outcome whose answer is flattened is the panel's: `flat-planned`, `flat-written`, `flat-opened`, `flat-edited` and `flat-put`.
 -- The outcome of columns is that of the rows they hold: `held-planned`, and where the rows are lent `loaded-flat` and `loaded-written`.
 -- What was parsed, once its rows are stored, is what was read: `parsed-flat`, `flat-fits` and `flat-taken`.
 -- Two outcomes that fit one call are equal: `one-answer`, `one-plan` and `one-arrivals` of planning, `one-reading` and `one-rows` of reading, `one-writing` and `one-area` of writing, `one-opening` and `one-edit` of editing, `one-put` of a sentence or a label.
@@ -12,10 +12,9 @@ use lib.ListN.{length, drop}
 use Rattle.table.specs.declared.Row.{Row}
 use Rattle.planner.specs.declared.Answer.{Answer}
 use Rattle.planner.specs.Planner.{Planned, areaAfter, thePlan, theArrivals}
-use Rattle.text.specs.declared.Reading.{Reading}
 use Rattle.text.specs.declared.Parsed.{Parsed}
 use Rattle.text.specs.declared.Writing.{Writing}
-use Rattle.text.specs.Text.{TextParsed, TextTaken, TextPut}
+use Rattle.text.specs.Text.{TextParsed, TextPut}
 use Rattle.table.specs.declared.Columns.{Columns}
 use Rattle.table.specs.declared.Verdict.{Verdict}
 use Rattle.table.specs.Steps.{columns, listed}
@@ -47,31 +46,37 @@ flat-planned n rows {p} {a} d e = record {
 }
 
 -- what is planned of columns that hold the rows of a list is planned of that list
-pub held-planned : (n : ℕ) {rows : List Row} {count held : ℕ} (columns : Columns) {p a p′ a′ : List ℕ} {s : PlanAnswer} → count ≡ held → listed held columns ≡ rows → PanelPlanned n (listed count columns) p a s p′ a′ → PanelPlanned n rows p a s p′ a′
+pub held-planned : (n : ℕ) {rows : List Row} {count held : ℕ} (columns : Columns) {p a p′ a′ : List ℕ} {s : PlanAnswer}
+    → count ≡ held → listed held columns ≡ rows → PanelPlanned n (listed count columns) p a s p′ a′
+    → PanelPlanned n rows p a s p′ a′
 held-planned n columns e holds d = rw (e, holds) at d
 
 -- the columns of lent rows are planned as the rows
-pub loaded-flat : (n : ℕ) (rows : List Row) {p a p′ a′ : List ℕ} {s : PlanAnswer} → PanelPlanned n (listed (length rows) (columns rows)) p a s p′ a′ → PanelPlanned n rows p a s p′ a′
-loaded-flat n rows d = flat-planned n rows (loaded-planned n rows (record { answers = refl; fills-plan = d .fills-plan; fills-arrivals = d .fills-arrivals })) (d .answers)
-
-pub flat-read : {text : List ℕ} {rows rows′ : List Row} {r : Reading} {s : ReadAnswer} → TextTaken text rows r rows′ → s ≡ flatReading r → PanelRead text rows s rows′
-flat-read d e = record { answers = e ∙ ap flatReading (d .answers); fills = d .fills }
+pub loaded-flat : (n : ℕ) (rows : List Row) {p a p′ a′ : List ℕ} {s : PlanAnswer}
+    → PanelPlanned n (listed (length rows) (columns rows)) p a s p′ a′ → PanelPlanned n rows p a s p′ a′
+loaded-flat n rows d =
+    flat-planned n rows (loaded-planned n rows
+    (record { answers = refl; fills-plan = d .fills-plan; fills-arrivals = d .fills-arrivals })) (d .answers)
 
 pub flat-written : {n : ℕ} {rows : List Row} {area area′ : List ℕ} {r : Writing} {s : WriteAnswer} → TextPut n rows area r area′ → s ≡ flatWriting r → PanelWritten n rows area s area′
 flat-written d e = record { answers = e ∙ ap flatWriting (d .answers); fills = d .fills }
 
 -- what was parsed, flattened, is what is read in plain numbers; its rows can be stored, and once they are, it is the panel's reading
-pub parsed-flat : {text : List ℕ} {lent : ℕ} {p : Parsed} {s : ReadAnswer} → TextParsed text lent p → s ≡ flatReading (p .reading) → FlatRead text lent (record { reading = s; rows = p .rows; columns = p .columns })
+pub parsed-flat : {text : List ℕ} {lent : ℕ} {p : Parsed} {s : ReadAnswer} → TextParsed text lent p
+    → s ≡ flatReading (p .reading) → FlatRead text lent (record { reading = s; rows = p .rows; columns = p .columns })
 parsed-flat d e = record { answers = e ∙ ap flatReading (d .judged); counted = d .counted; rows = d .rows }
 
 pub flat-fits : (text : List ℕ) (lent : ℕ) (p : FlatParsed) → FlatRead text lent p → (p .rows ≤ lent) × (p .rows ≤ 512)
 flat-fits text lent p d = rows-fit text lent (d .counted)
 
-pub flat-taken : (text : List ℕ) (rows : List Row) (p : FlatParsed) {rows′ : List Row} → FlatRead text (length rows) p → rows′ ≡ listed (p .rows) (p .columns) ++ drop (p .rows) rows → PanelRead text rows (p .reading) rows′
+pub flat-taken : (text : List ℕ) (rows : List Row) (p : FlatParsed) {rows′ : List Row}
+    → FlatRead text (length rows) p → rows′ ≡ listed (p .rows) (p .columns) ++ drop (p .rows) rows
+    → PanelRead text rows (p .reading) rows′
 flat-taken text rows p d e = record { answers = d .answers; fills = e ∙ rows-stored text rows (d .counted) (d .rows) }
 
 -- the columns of lent rows are written as the rows
-pub loaded-written : (n : ℕ) (rows : List Row) (area : List ℕ) {area′ : List ℕ} {s : WriteAnswer} → PanelWritten n (listed (length rows) (columns rows)) area s area′ → PanelWritten n rows area s area′
+pub loaded-written : (n : ℕ) (rows : List Row) (area : List ℕ) {area′ : List ℕ} {s : WriteAnswer}
+    → PanelWritten n (listed (length rows) (columns rows)) area s area′ → PanelWritten n rows area s area′
 loaded-written n rows area d = flat-written (loaded-put n rows area (refl, d .fills)) (d .answers)
 
 pub flat-opened : {n : ℕ} {s s′ : List ℕ} {v : Verdict} {r : EditAnswer} → Opened n s v s′ → r ≡ flatVerdict v → PanelOpened n s r s′

@@ -5,15 +5,11 @@
 --     rows-of-columns, same-rows      the rows that columns of just their length hold
 -- Assumes nothing.
 use mathlib.Core.Path.{_≡_, refl, _∙_, ap, sym}
-use Prim.Native.Nat.{ℕ, zero, suc, _≤_, _<_, min}
+use Prim.Native.Nat.{ℕ, zero, suc, _≤_, _<_}
 use native.Mathlib.Omega.{arith}
-use mathlib.Core.Bool.{Bool, true, false}
 use mathlib.Core.List.{List, [], _∷_, map, _++_}
-use borrow.Author.Tests.{eqb-true, eqb-false, ltb-true, ltb-false}
-use lib.Dec.{eqb, ltb}
-use lib.ListN.{length, getD, set, take, drop, replicate, length-append, length-take, length-drop, length-replicate, length-set, List·getD-map}
-use lib.Seq.{ext-getD, getD-take, getD-set-same, getD-set-other, take-all, take-take, take-append-le, drop-cons, set-at}
-use Rattle.lists.specs.Lists.{build}
+use lib.ListN.{length, getD, replicate, List·getD-map}
+use lib.Seq.{getD-take}
 use Rattle.lists.proofs.Build.{length-build, build-ext, build-of}
 use Rattle.table.specs.declared.Row.{Row}
 use Rattle.table.specs.declared.Columns.{Columns}
@@ -35,7 +31,6 @@ pub column-at : (xs : List ℕ) (j : ℕ) → j < 512 → getD (column xs) j 0 �
 unfolding column
 column-at xs j l = getD-take 512 (xs ++ replicate 512 0) j 0 l ∙ getD-padded 512 xs j
 
--- ---- the three of them
 pub length-map : {A B : Type 0} (f : A → B) (xs : List A) → length (map f xs) ≡ length xs
 length-map f [] = refl
 length-map f (x ∷ xs) = ap suc (length-map f xs)

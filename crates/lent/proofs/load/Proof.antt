@@ -52,7 +52,7 @@ use Rattle.table.specs.declared.Row.{Row}
 use Rattle.table.specs.declared.Columns.{Columns}
 use Rattle.table.specs.Steps.{none, columns}
 use Rattle.lent.proofs.Element.{elem}
-use Rattle.lent.proofs.Held.{values, values-set, values-long, machine, IsColumns, IsRow, columns-stored}
+use Rattle.lent.proofs.Held.{values, values-set, values-long, machine, IsColumns, IsRow, columns-are, row-is, columns-stored}
 use Rattle.lent.proofs.Loading.{columns-more, columns-all}
 use Rattle.table.proofs.Row as T
 use Rattle.table.proofs.Row.Laws as T′
@@ -170,18 +170,8 @@ module _ {M : Type 1} (𝓤 : URA M) (H : Heap 𝓤) (A : Atoms 𝓤) (W : Given
   tab i = columns (take i ys)
 
   -- what a call gave, at the value that its contract names
-  row-is : (r s : Row) (v : Val) → Is R r (v ∷ []) → r ≡ s → (v ≡ mR s) × IsRow s
-  row-is r s v p e =
-      let t = LL.tells T.the-type T′.the-laws r (v ∷ []) p in
-      subst (λ (x : Row). (v ≡ mR x) × IsRow x) e (ap only t, subst (Is R r) t p)
-
   typed-row : (r : Row) → IsRow r → Holds (hasTy T′.mir (mR r)) × WT (mR r)
   typed-row r p = LL.lawful T.the-type T′.the-laws 𝓤 H A W .typed r _ p .0
-
-  columns-are : (t s : Columns) (v : Val) → Is TR t (v ∷ []) → t ≡ s → (v ≡ machine s) × IsColumns s
-  columns-are t s v p e =
-      let u = LL.tells B.the-type B′.the-laws t (v ∷ []) p in
-      subst (λ (x : Columns). (v ≡ machine x) × IsColumns x) e (ap only u, subst (Is TR t) u p)
 
   count-is : (k : ℕ) (v : Val) → Is usize k (v ∷ []) → k ≡ m → v ≡ vint w64 m
   count-is k v p e = ap only (uint-tells w64 k (v ∷ []) p) ∙ ap (vint w64) e

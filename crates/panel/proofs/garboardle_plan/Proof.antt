@@ -28,4 +28,5 @@ garboardle-plan-spec 𝓤 H 𝓜 𝓖 𝓡 =
     (λ k rows xs r zs. PanelPlanned k rows (xs .0) (xs .1 .0) r (zs .0) (zs .1 .0))
     (λ k rows xs r zs d. loaded-flat k rows d)
     𝓤 H 𝓜 𝓖 𝓡 (λ r w is. LL.lawful S.the-type S′.the-laws 𝓤 H (𝓖 .A) (givenOf 𝓤 H 𝓜 𝓖) .typed r (w ∷ []) is .0)
-    code.env export.name code.calls-lent·load core.name core.routine code.calls-panel·plan-flat (code.unfolded 𝓤 H 𝓜 𝓡) (core-thm.met 𝓤 H 𝓜 𝓖 𝓡)
+    code.env export.name code.calls-lent·load core.name core.routine code.calls-panel·plan-flat
+    (code.unfolded 𝓤 H 𝓜 𝓡) (core-thm.met 𝓤 H 𝓜 𝓖 𝓡)

@@ -31,7 +31,8 @@ returns : tie.Need-returns
 returns c =
     let planned = c .before .before .before .before in
     let loaded = planned .before .before .before .before in
-    held-planned (nodesIn (loaded .before .before .before .before .args .table .now)) _ (loaded .before .row-count .ensures) (loaded .columns-of .ensures) (planned .plan-flat .ensures)
+    held-planned (nodesIn (loaded .before .before .before .before .args .table .now)) _
+    (loaded .before .row-count .ensures) (loaded .columns-of .ensures) (planned .plan-flat .ensures)
 
 pub garboardle-plan-table-spec : {M : Type 1} → statement M
 garboardle-plan-table-spec =

@@ -29,13 +29,15 @@ pub read-spec : {M : Type 1} → stated.statement M
 unfolding code.routine
 read-spec 𝓤 H 𝓜 𝓖 𝓡 =
     let W = givenOf 𝓤 H 𝓜 𝓖 in
-    stores-rows S.the-row P.the-row (λ p. p .reading) (λ p. p .rows) (λ p. p .columns) (name-in P′.mir) S′.mir value TextParsed TextTaken 𝓤 H 𝓜 𝓖 𝓡
+    stores-rows S.the-row P.the-row (λ p. p .reading) (λ p. p .rows) (λ p. p .columns)
+    (name-in P′.mir) S′.mir value TextParsed TextTaken 𝓤 H 𝓜 𝓖 𝓡
     (record {
       apart = λ p v is. let each = LL.owed P.the-type P′.the-laws p (v ∷ []) is in record {
         is-found = ap only (LL.tells P.the-type P′.the-laws p (v ∷ []) is);
         typed = LL.lawful P.the-type P′.the-laws 𝓤 H (𝓖 .A) W .typed p (v ∷ []) is .0;
         answer = each .0;
-        answer-typed = EL.lawful S.the-type S′.the-laws 𝓤 H (𝓖 .A) W tt .typed (p .reading) (value (p .reading) ∷ []) (each .0) .0;
+        answer-typed = EL.lawful S.the-type S′.the-laws 𝓤 H (𝓖 .A) W tt .typed (p .reading) (value (p .reading) ∷ [])
+            (each .0) .0;
         counted = each .1 .0 .1;
         held = each .1 .1 .0;
       };
@@ -43,4 +45,5 @@ read-spec 𝓤 H 𝓜 𝓖 𝓡 =
       told = λ text rows p rows′ s e. parsed-taken text rows p s e;
     })
     (EL.makes S.the-type S′.the-plain 𝓤 H (𝓖 .A))
-    code.env read.name code.calls-lent·store-rows core.name core.routine code.calls-reader·parse (code.unfolded 𝓤 H 𝓜 𝓡) (core-thm.met 𝓤 H 𝓜 𝓖 𝓡)
+    code.env read.name code.calls-lent·store-rows core.name core.routine code.calls-reader·parse
+    (code.unfolded 𝓤 H 𝓜 𝓡) (core-thm.met 𝓤 H 𝓜 𝓖 𝓡)

@@ -30,4 +30,5 @@ write-spec 𝓤 H 𝓜 𝓖 𝓡 =
     (λ k rows xs r zs. TextPut k rows (xs .0) r (zs .0))
     (λ k rows xs r zs d. loaded-put k rows (xs .0) d)
     𝓤 H 𝓜 𝓖 𝓡 (λ r w is. EL.lawful S.the-type S′.the-laws 𝓤 H (𝓖 .A) (givenOf 𝓤 H 𝓜 𝓖) tt .typed r (w ∷ []) is .0)
-    code.env write.name code.calls-lent·load core.name core.routine code.calls-writer·write-columns (code.unfolded 𝓤 H 𝓜 𝓡) (core-thm.met 𝓤 H 𝓜 𝓖 𝓡)
+    code.env write.name code.calls-lent·load core.name core.routine code.calls-writer·write-columns
+    (code.unfolded 𝓤 H 𝓜 𝓡) (core-thm.met 𝓤 H 𝓜 𝓖 𝓡)
