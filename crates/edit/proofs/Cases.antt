@@ -50,7 +50,8 @@ steps =
     ∷ step (Add (row 4 1 5)) (refused 3 4) (row 0 2 4 ∷ row 3 1 5 ∷ row 1 0 9 ∷ []) (2 ∷ 2 ∷ 1 ∷ 2 ∷ []) (busiest 0 2)
     ∷ step (Change 1 (row 2 3 1)) Good (row 2 3 1 ∷ row 3 1 5 ∷ row 1 0 9 ∷ []) (1 ∷ 1 ∷ 2 ∷ 2 ∷ []) (busiest 2 2)
     -- a row that isn't there
-    ∷ step (Change 9 (row 2 3 1)) (refused 12 9) (row 2 3 1 ∷ row 3 1 5 ∷ row 1 0 9 ∷ []) (1 ∷ 1 ∷ 2 ∷ 2 ∷ []) (busiest 2 2)
+    ∷ step (Change 9 (row 2 3 1)) (refused 12 9) (row 2 3 1 ∷ row 3 1 5 ∷ row 1 0 9 ∷ []) (1 ∷ 1 ∷ 2 ∷ 2 ∷ [])
+    (busiest 2 2)
     ∷ step (Remove 2) Good (row 2 3 1 ∷ row 1 0 9 ∷ []) (0 ∷ 1 ∷ 2 ∷ 1 ∷ []) (busiest 2 2)
     ∷ step (Remove 0) (refused 12 0) (row 2 3 1 ∷ row 1 0 9 ∷ []) (0 ∷ 1 ∷ 2 ∷ 1 ∷ []) (busiest 2 2)
     ∷ []
@@ -66,7 +67,9 @@ computed s (c ∷ cs) =
 
 -- Every step comes out as expected.
 steps-come-out : computed (areaOf 4 []) steps ≡ steps
-unfolding row refused busiest step steps computed largest rowRefusal crosses load rowNumbers rowBy numbers laid areaOf loadIn rowIn rowsIn firstOf sizeRefusal numberRefusal refusalOf aboutRow rowNamed verdictBy rowsAfter stepBy stepFor loadAfter behindAfter edited areaAfter loadsIn firstPlace busiestIn
+unfolding row refused busiest step steps computed largest rowRefusal crosses load rowNumbers rowBy numbers laid areaOf
+    loadIn rowIn rowsIn firstOf sizeRefusal numberRefusal refusalOf aboutRow rowNamed verdictBy rowsAfter stepBy stepFor
+    loadAfter behindAfter edited areaAfter loadsIn firstPlace busiestIn
 steps-come-out = refl
 
 -- An area, an edit of it, and the refusal expected.
@@ -109,7 +112,8 @@ wrongs =
 wrongs-are-refused :
     map (λ (w : Wrong). verdictBy (editRefusal (w .area) (w .edit)) (aboutRow (w .area) (w .edit))) wrongs
     ≡ map (λ (w : Wrong). refused (w .number) (w .about)) wrongs
-unfolding row refused wrong single full wrongs rowRefusal load rowNumbers numbers laid areaOf firstOf sizeRefusal numberRefusal refusalOf aboutRow rowNamed verdictBy
+unfolding row refused wrong single full wrongs rowRefusal load rowNumbers numbers laid areaOf firstOf sizeRefusal
+    numberRefusal refusalOf aboutRow rowNamed verdictBy
 wrongs-are-refused = refl
 
 -- Tables for 1 to 33 nodes, opened; an opened one has no rows and no loads, and its busiest link is link 0 with load 0.
@@ -127,7 +131,8 @@ empty-table = (refl, refl, refl)
 -- Rows of a table of one row, asked for.
 rows-asked : map (entryOf single) (0 ∷ 1 ∷ 2 ∷ [])
     ≡ entry.Refused (refuse 12 0 0) ∷ entry.Shown (row 0 1 1) ∷ entry.Refused (refuse 12 2 0) ∷ []
-unfolding row single load rowNumbers rowBy numbers laid areaOf rowIn firstOf sizeRefusal numberRefusal refusalOf rowNamed entryOf
+unfolding row single load rowNumbers rowBy numbers laid areaOf rowIn firstOf sizeRefusal numberRefusal refusalOf
+    rowNamed entryOf
 rows-asked = refl
 
 -- Where the rows begin in an area, and how many numbers it has: the header for C has the second.

@@ -22,7 +22,17 @@ use Rattle.flat.specs.declared.SentenceAnswer.{SentenceAnswer}
 -- An answer as plain numbers: an acceptance has number, row and slot 0, and a refusal has every figure 0.
 unfoldable pub flatOf : Answer → PlanAnswer
 flatOf (Accepted s) =
-    record { number = 0; row = 0; slot = 0; last = s .last .0; sends = s .sends; sum = s .sum; mean = s .mean; share = s .share }
+    record {
+      number = 0;
+      row = 0;
+      slot = 0;
+      last = s .last .0;
+      sends = s .sends;
+      sum = s .sum;
+      mean = s .mean;
+      share =
+          s .share;
+    }
 flatOf (Refused r) =
     record {
       number = r .number;
@@ -35,7 +45,8 @@ flatOf (Refused r) =
       share = ofBits binary64 0;
     }
 
--- What reading comes to as plain numbers: a text that was read has number and line 0, and a refusal has nodes and rows 0, and as its line what it names.
+-- What reading comes to as plain numbers: a text that was read has number and line 0, and a refusal has nodes and rows
+-- 0, and as its line what it names.
 unfoldable pub flatReading : Reading → ReadAnswer
 flatReading (Read h) = record { number = 0; line = 0; nodes = h .nodes; rows = h .rows }
 flatReading (NotRead r) = record { number = r .number; line = r .row; nodes = 0; rows = 0 }
@@ -59,7 +70,8 @@ flatEntry (NotShown r) = record { number = r .number; row = r .row; slot = r .sl
 unfoldable pub flatLink : LinkLoad → LinkAnswer
 flatLink l = record { link = l .link .0; load = l .load }
 
--- What writing a sentence or a label comes to, as plain numbers: where it was written all but the length are 0, and a refusal has length 0.
+-- What writing a sentence or a label comes to, as plain numbers: where it was written all but the length are 0, and a
+-- refusal has length 0.
 unfoldable pub flatSentence : Writing → SentenceAnswer
 flatSentence (Written k) = record { number = 0; row = 0; slot = 0; length = k }
 flatSentence (NotWritten r) = record { number = r .number; row = r .row; slot = r .slot .0; length = 0 }

@@ -1,6 +1,8 @@
-// Answers as plain numbers, as C takes them: an exported function can't return an enum, so each answer has a flat struct.
+// Answers as plain numbers, as C takes them: an exported function can't return an enum, so each answer has a flat
+// struct.
 ghost use mathlib.Core.Path.{_≡_};
-ghost use Rattle.flat.specs.Flat.{flatOf, flatReading, flatWriting, flatVerdict, flatEntry, flatLink, flatSentence};
+ghost use Rattle.flat.specs.Flat.{flatOf, flatReading, flatWriting, flatVerdict, flatEntry, flatLink};
+ghost use Rattle.flat.specs.Flat.{flatSentence};
 use area::LinkLoad;
 use edit::Entry;
 use planner::Answer;
@@ -21,7 +23,8 @@ pub struct PlanAnswer {
     pub share: f64,
 }
 
-// What reading a text comes to, as plain numbers: `number` is 0 for a text that was read and a refusal's own otherwise, and `line` is the wrong line of refusal 20.
+// What reading a text comes to, as plain numbers: `number` is 0 for a text that was read and a refusal's own otherwise,
+// and `line` is the wrong line of refusal 20.
 #[repr(C)]
 pub struct ReadAnswer {
     pub number: u16,
@@ -30,14 +33,16 @@ pub struct ReadAnswer {
     pub rows: u16,
 }
 
-// What writing a text comes to, as plain numbers: `number` is 0 for a text that was written and a refusal's own otherwise.
+// What writing a text comes to, as plain numbers: `number` is 0 for a text that was written and a refusal's own
+// otherwise.
 #[repr(C)]
 pub struct WriteAnswer {
     pub number: u16,
     pub length: usize,
 }
 
-// What opening a table, editing it or judging a catalogue comes to, as plain numbers: `number` is 0 where it was done and a refusal's own otherwise.
+// What opening a table, editing it or judging a catalogue comes to, as plain numbers: `number` is 0 where it was done
+// and a refusal's own otherwise.
 #[repr(C)]
 pub struct EditAnswer {
     pub number: u16,
@@ -63,7 +68,8 @@ pub struct LinkAnswer {
     pub load: u16,
 }
 
-// What writing a sentence or a label comes to, as plain numbers: `number` is 0 where it was written and a refusal's own otherwise.
+// What writing a sentence or a label comes to, as plain numbers: `number` is 0 where it was written and a refusal's own
+// otherwise.
 #[repr(C)]
 pub struct SentenceAnswer {
     pub number: u16,

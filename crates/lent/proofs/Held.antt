@@ -62,8 +62,17 @@ each-set (y ∷ ys) zero x l s = ((refl, l), s .1)
 each-set (y ∷ ys) (suc i) x l s = (s .0, each-set ys i x l (s .1))
 
 holds-set : (n : ℕ) (xs : List ℕ) (i x : ℕ) → x < 2 ^ 16 → Holds n xs → Holds n (set xs i x)
-holds-set n xs i x l h =
-    (values (set xs i x), ((refl, length-map (set xs i x) (λ (y : ℕ). y) ∙ length-set xs i x ∙ sym (length-map xs (λ (y : ℕ). y)) ∙ h .1 .0 .1), each-set xs i x l (each-values xs (h .0) (h .1 .1))))
+holds-set n xs i x l h = (
+  values (set xs i x),
+  (
+    (
+      refl,
+      length-map (set xs i x) (λ (y : ℕ). y) ∙ length-set xs i x
+          ∙ sym (length-map xs (λ (y : ℕ). y)) ∙ h .1 .0 .1,
+    ),
+    each-set xs i x l (each-values xs (h .0) (h .1 .1)),
+  ),
+)
 
 -- one value read: the number it is, which fits
 pub values-at : (xs : List ℕ) (i : ℕ) → getD (values xs) i (vint w16 0) ≡ vint w16 (getD xs i 0)
@@ -102,11 +111,21 @@ pub columns-stored : (c : Columns) (i : ℕ) (r : Row) → IsColumns c → IsRow
 columns-stored c i r p f =
     let cs = LL.owed B.the-type B′.the-laws c _ p in
     let rs = LL.owed T.the-type T′.the-laws r _ f in
-    LL.owes B.the-type B′.the-laws (stored c i r)
-    (holds-set 512 (c .src) i (r .src) (rs .0 .1) (cs .0), (holds-set 512 (c .dst) i (r .dst) (rs .1 .0 .1) (cs .1 .0), (holds-set 512 (c .due) i (r .due) (rs .1 .1 .0 .1) (cs .1 .1 .0), tt)))
+    LL.owes B.the-type B′.the-laws (stored c i r) (
+      holds-set 512 (c .src) i (r .src) (rs .0 .1) (cs .0),
+      (
+        holds-set 512 (c .dst) i (r .dst) (rs .1 .0 .1) (cs .1 .0),
+        (holds-set 512 (c .due) i (r .due) (rs .1 .1 .0 .1) (cs .1 .1 .0), tt),
+      ),
+    )
 
 pub row-stored : (c : Columns) (i : ℕ) → IsColumns c → IsRow (rowOf c i)
 row-stored c i p =
     let cs = LL.owed B.the-type B′.the-laws c _ p in
-    LL.owes T.the-type T′.the-laws (rowOf c i)
-    ((refl, each-fits (c .src) (cs .0 .0) (cs .0 .1 .1) i), ((refl, each-fits (c .dst) (cs .1 .0 .0) (cs .1 .0 .1 .1) i), ((refl, each-fits (c .due) (cs .1 .1 .0 .0) (cs .1 .1 .0 .1 .1) i), tt)))
+    LL.owes T.the-type T′.the-laws (rowOf c i) (
+      (refl, each-fits (c .src) (cs .0 .0) (cs .0 .1 .1) i),
+      (
+        (refl, each-fits (c .dst) (cs .1 .0 .0) (cs .1 .0 .1 .1) i),
+        ((refl, each-fits (c .due) (cs .1 .1 .0 .0) (cs .1 .1 .0 .1 .1) i), tt),
+      ),
+    )

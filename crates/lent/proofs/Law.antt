@@ -1,9 +1,12 @@
--- The law of every function that is lent rows and calls a covered function on their columns (`Lending.antt` has its walk): where the callee says `Said` of the columns, and `Said` of the columns of some rows is `Promise` of the rows, the function promises `Promise`.
+-- The law of every function that is lent rows and calls a covered function on their columns (`Lending.antt` has its
+-- walk): where the callee says `Said` of the columns, and `Said` of the columns of some rows is `Promise` of the rows,
+-- the function promises `Promise`.
 --     others           the slots of the areas and views, the first at the lifetime numbered j
 --     Lists            a list for each: what it holds
 --     signature, spec, core-signature, core-spec      of the function, and of its callee
 --     lends-rows       the law
--- The areas go to the callee at their own lifetimes, shares and ghost names: the borrows are given up for good, and what the callee says of the last lists is what the function says of them.
+-- The areas go to the callee at their own lifetimes, shares and ghost names: the borrows are given up for good, and
+-- what the callee says of the last lists is what the function says of them.
 -- Assumes nothing.
 use mathlib.Core.Path.{_≡_, refl, sym, _∙_, ap, subst}
 use Prim.Native.Nat.{ℕ, suc, _<_, _^_}
@@ -24,7 +27,8 @@ use contract.Monad.{Fun, fact}
 use contract.Lifetimes.{Lfts, Shares, Within, lftAt, toks}
 use contract.Running.{Running, GhostRules, givenOf, tables, tablesOf}
 use sound.WpLaws.{fmOf, WpFn-mono}
-use types.Kit.{Given, ‵, raw, _⊛_, some, later, _$_, _∵_, !, qed, move, use1, drop, split, join, pick, fsplit, fjoin, feqL, suffices, frame, await, updating, now as at-once, done}
+use types.Kit.{Given, ‵, raw, _⊛_, some, later, _$_, _∵_, !, qed, move, use1, drop, split, join, pick, fsplit, fjoin}
+use types.Kit.{feqL, suffices, frame, await, updating, now as at-once, done}
 use denote.RattleType.{RattleType, Denots, Valss, flat, owns}
 use denote.Laws.{Is, Ises, Are, Spells, valss, Tellss, shows}
 use denote.Plain.{UInt, uint-vals, uint-tells, uint-makes}
@@ -41,7 +45,8 @@ use denote.Triple.End.{Kepts, Fins, Outs, outs, lastsOf, all}
 use denote.Triple.Clauses.{Ended, Clauses, closing, ensured, Lasts, lasts}
 use denote.Triple.Spec.{Spec, Meets, tripleOf}
 use denote.Triple.Table.{entered, cited}
-use denote.Triple.Walked.{says, Stays, stay-none, stay-none-slice, stay-dropped, gave-slice, hasOf, fitsOf, walkOf, AllGo, goes-none, goes-none-slice, goes-dropped, goes-gave-slice, ends-at, walked, walk-meets}
+use denote.Triple.Walked.{says, Stays, stay-none, stay-none-slice, stay-dropped, gave-slice, hasOf, fitsOf, walkOf}
+use denote.Triple.Walked.{AllGo, goes-none, goes-none-slice, goes-dropped, goes-gave-slice, ends-at, walked, walk-meets}
 use Rattle.table.specs.declared.Row.{Row}
 use Rattle.table.specs.declared.Columns.{Columns}
 use Rattle.table.specs.Steps.{columns}

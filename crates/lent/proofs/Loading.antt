@@ -10,7 +10,8 @@ use mathlib.Core.Bool.{Bool, true, false}
 use mathlib.Core.List.{List, [], _∷_, map, _++_}
 use borrow.Author.Tests.{eqb-true, eqb-false, ltb-true, ltb-false}
 use lib.Dec.{eqb, ltb}
-use lib.ListN.{length, getD, set, take, drop, replicate, length-append, length-take, length-drop, length-replicate, length-set, List·getD-map}
+use lib.ListN.{length, getD, set, take, drop, replicate, length-append, length-take, length-drop, length-replicate}
+use lib.ListN.{length-set, List·getD-map}
 use lib.Seq.{ext-getD, getD-take, getD-set-same, getD-set-other, take-all, take-take, take-append-le, drop-cons, set-at}
 use Rattle.lists.specs.Lists.{build}
 use Rattle.table.specs.declared.Row.{Row}
@@ -22,7 +23,13 @@ use Rattle.table.proofs.Rows.{column-at, length-map, rowOf, length-listed}
 -- ---- one column
 column-long : (xs : List ℕ) → length (column xs) ≡ 512
 unfolding column
-column-long xs = omega (arith, length-take 512 (xs ++ replicate 512 0), length-append xs (replicate 512 0), length-replicate {A = ℕ} 512 0)
+column-long xs =
+    omega (
+      arith,
+      length-take 512 (xs ++ replicate 512 0),
+      length-append xs (replicate 512 0),
+      length-replicate {A = ℕ} 512 0,
+    )
 
 -- away from i, the first i entries and the first i + 1 entries agree
 take-other : (xs : List ℕ) (i j : ℕ) → (j ≡ i → ⊥) → getD (take (suc i) xs) j 0 ≡ getD (take i xs) j 0
@@ -35,19 +42,30 @@ take-other (x ∷ xs) (suc i) (suc j) h = take-other xs i j (λ e. h (ap suc e))
 
 column-more : (xs : List ℕ) (i : ℕ) → i < 512 → column (take (suc i) xs) ≡ set (column (take i xs)) i (getD xs i 0)
 column-more xs i small =
-    ext-getD 0 (column (take (suc i) xs)) (set (column (take i xs)) i (getD xs i 0)) (column-long (take (suc i) xs) ∙ sym (length-set (column (take i xs)) i (getD xs i 0) ∙ column-long (take i xs))) (λ j l. go j (omega (arith, column-long (take (suc i) xs))) (eqb j i) refl)
+    ext-getD 0 (column (take (suc i) xs)) (set (column (take i xs)) i (getD xs i 0))
+    (column-long (take (suc i) xs)
+    ∙ sym (length-set (column (take i xs)) i (getD xs i 0) ∙ column-long (take i xs)))
+    (λ j l. go j (omega (arith, column-long (take (suc i) xs))) (eqb j i) refl)
   where
-    go : (j : ℕ) → j < 512 → (t : Bool) → eqb j i ≡ t → getD (column (take (suc i) xs)) j 0 ≡ getD (set (column (take i xs)) i (getD xs i 0)) j 0
+    go : (j : ℕ) → j < 512 → (t : Bool) → eqb j i ≡ t
+        → getD (column (take (suc i) xs)) j 0 ≡ getD (set (column (take i xs)) i (getD xs i 0)) j 0
     go j l true e =
         let s : j ≡ i = eqb-true j i e in
-        rw (s, column-at (take (suc i) xs) i small, getD-take (suc i) xs i 0 (omega arith), getD-set-same (column (take i xs)) i (getD xs i 0) 0 (omega (arith, column-long (take i xs))))
+        rw (
+          s,
+          column-at (take (suc i) xs) i small,
+          getD-take (suc i) xs i 0 (omega arith),
+          getD-set-same (column (take i xs)) i (getD xs i 0) 0 (omega (arith, column-long (take i xs))),
+        )
     go j l false e =
-        column-at (take (suc i) xs) j l ∙ take-other xs i j (eqb-false j i e) ∙ sym (column-at (take i xs) j l) ∙ sym (getD-set-other (column (take i xs)) i j (getD xs i 0) 0 (eqb-false j i e))
+        column-at (take (suc i) xs) j l ∙ take-other xs i j (eqb-false j i e) ∙ sym (column-at (take i xs) j l)
+        ∙ sym (getD-set-other (column (take i xs)) i j (getD xs i 0) 0 (eqb-false j i e))
 
 column-cut : (xs : List ℕ) → 512 ≤ length xs → column (take 512 xs) ≡ column xs
 unfolding column
 column-cut xs l =
-    take-append-le 512 (take 512 xs) (replicate 512 0) (omega (arith, length-take 512 xs)) ∙ take-take 512 512 xs (omega arith) ∙ sym (take-append-le 512 xs (replicate 512 0) l)
+    take-append-le 512 (take 512 xs) (replicate 512 0) (omega (arith, length-take 512 xs))
+    ∙ take-take 512 512 xs (omega arith) ∙ sym (take-append-le 512 xs (replicate 512 0) l)
 
 column-all : (xs : List ℕ) → column (take (min (length xs) 512) xs) ≡ column xs
 column-all xs = go (ltb 512 (length xs)) refl
@@ -69,21 +87,30 @@ map-take f (suc i) [] = refl
 map-take {A} {B} f (suc i) (x ∷ xs) = ap {B = List B} (λ l. f x ∷ l) (map-take f i xs)
 
 -- one column of rows
-of-more : (f : Row → ℕ) → f none ≡ 0 → (rows : List Row) (i : ℕ) → i < 512 → column (map f (take (suc i) rows)) ≡ set (column (map f (take i rows))) i (f (getD rows i none))
+of-more : (f : Row → ℕ) → f none ≡ 0 → (rows : List Row) (i : ℕ) → i < 512
+    → column (map f (take (suc i) rows)) ≡ set (column (map f (take i rows))) i (f (getD rows i none))
 of-more f z rows i small =
     ap column (map-take f (suc i) rows) ∙ column-more (map f rows) i small
     ∙ rw (sym (map-take f i rows), sym (List·getD-map f rows i none), z)
 
 of-all : (f : Row → ℕ) (rows : List Row) → column (map f (take (min (length rows) 512) rows)) ≡ column (map f rows)
-of-all f rows = ap column (map-take f (min (length rows) 512) rows) ∙ ap (λ (n : ℕ). column (take (min n 512) (map f rows))) (sym (length-map f rows)) ∙ column-all (map f rows)
+of-all f rows =
+    ap column (map-take f (min (length rows) 512) rows)
+    ∙ ap (λ (n : ℕ). column (take (min n 512) (map f rows))) (sym (length-map f rows)) ∙ column-all (map f rows)
 
 -- a row stored at place i
 abbrev pub stored : Columns → ℕ → Row → Columns
 stored c i r = record { src = set (c .src) i (r .src); dst = set (c .dst) i (r .dst); due = set (c .due) i (r .due) }
 
-pub columns-more : (rows : List Row) (i : ℕ) → i < 512 → columns (take (suc i) rows) ≡ stored (columns (take i rows)) i (getD rows i none)
+pub columns-more : (rows : List Row) (i : ℕ) → i < 512
+    → columns (take (suc i) rows) ≡ stored (columns (take i rows)) i (getD rows i none)
 unfolding columns sources destinations dues
-columns-more rows i small = cc (of-more (λ r. r .src) refl rows i small, of-more (λ r. r .dst) refl rows i small, of-more (λ r. r .due) refl rows i small)
+columns-more rows i small =
+    cc (
+      of-more (λ r. r .src) refl rows i small,
+      of-more (λ r. r .dst) refl rows i small,
+      of-more (λ r. r .due) refl rows i small,
+    )
 
 pub columns-all : (rows : List Row) → columns (take (min (length rows) 512) rows) ≡ columns rows
 unfolding columns sources destinations dues
@@ -105,8 +132,10 @@ front-none c rows = refl
 pub front-long : (c : Columns) (rows : List Row) (i : ℕ) → i ≤ length rows → length (front c rows i) ≡ length rows
 front-long c rows i l = omega (arith, length-append (listed i c) (drop i rows), length-listed i c, length-drop i rows)
 
-pub front-more : (c : Columns) (rows : List Row) (i : ℕ) → i < length rows → set (front c rows i) i (rowOf c i) ≡ front c rows (suc i)
+pub front-more : (c : Columns) (rows : List Row) (i : ℕ) → i < length rows
+    → set (front c rows i) i (rowOf c i) ≡ front c rows (suc i)
 unfolding listed
 front-more c rows i l =
     ap (λ (rest : List Row). set (listed i c ++ rest) i (rowOf c i)) (drop-cons rows i none l)
-    ∙ set-at (listed i c) (getD rows i none) (drop (suc i) rows) (rowOf c i) i (length-listed i c) ∙ sym (build-next i (rowOf c) (drop (suc i) rows))
+    ∙ set-at (listed i c) (getD rows i none) (drop (suc i) rows) (rowOf c i) i (length-listed i c)
+    ∙ sym (build-next i (rowOf c) (drop (suc i) rows))

@@ -1,4 +1,5 @@
--- A function's locals, some at a time: rules for walks of MIR by hand, beside `types.Run`'s, which take one local at a time.
+-- A function's locals, some at a time: rules for walks of MIR by hand, beside `types.Run`'s, which take one local at a
+-- time.
 --     envOf            the locals' entries in the environment, once each has its block
 --     rooms, deaths    room for some locals, and what frees them
 --     alloc-some       the locals in front of a list are allocated
@@ -17,7 +18,8 @@ use base.Logic.{SProp, sep, emp, id⊢}
 use base.Fml.{froom, fdies}
 use prog.Wp.{Heap, Env, Spot}
 use ghost.Atoms.{Atoms}
-use types.Kit.{Given, Item, ‵, raw, _⊛_, Goal, allocs, frees, Go, Seq, Step, step, _$_, !, move, use1, use2, drop, split}
+use types.Kit.{Given, Item, ‵, raw, _⊛_, Goal, allocs, frees, Go, Seq, Step, step, _$_, !, move, use1, use2, drop}
+use types.Kit.{split}
 use types.Run.{Walks, Finds, from, alloc1, free1}
 use denote.Steps.{nothing}
 

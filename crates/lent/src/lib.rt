@@ -1,4 +1,5 @@
-// The few functions over lent rows: all that the other rooms do with a slice of rows, they do on the columns that are loaded here.
+// The few functions over lent rows: all that the other rooms do with a slice of rows, they do on the columns that are
+// loaded here.
 ghost use mathlib.Core.Path.{_≡_};
 ghost use Prim.Native.Nat.{_≤_, _<_, min};
 ghost use mathlib.Core.List.{[], _++_};

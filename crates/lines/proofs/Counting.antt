@@ -81,6 +81,21 @@ module _ {text : List ℕ} {at value i : ℕ} (k : Read text at value i) where
     further l h =
         let left : 5 - i ≡ suc (5 - (i + 1)) = omega arith in
         let next : at + (i + 1) ≡ suc (at + i) = omega arith in
-        let digit : digitsAt (5 - i) (drop (at + i) text) ≡ getD text (at + i) 0 ∷ digitsAt (5 - (i + 1)) (drop (at + (i + 1)) text) = rw (left, next, drop-cons text (at + i) 0 here, le-leb 48 (getD text (at + i) 0) l, le-leb (getD text (at + i) 0) 57 h) in
+        let digit : digitsAt (5 - i) (drop (at + i) text) ≡ getD text (at + i) 0 ∷ digitsAt (5 - (i + 1))
+        (drop (at + (i + 1)) text) =
+        rw (
+          left,
+          next,
+          drop-cons text (at + i) 0 here,
+          le-leb 48 (getD text (at + i) 0) l,
+          le-leb (getD text (at + i) 0) 57 h,
+        ) in
         let ten : 10 ^ (i + 1) ≡ 10 ^ i * 10 = rw add-one (pow-suc 10 i) in
-        record { few = omega arith; there = omega arith; small = omega (arith, k .small, ten); says = k .says ∙ rw digit; many = k .many ∙ rw digit (omega arith) }
+        record {
+          few = omega arith;
+          there = omega arith;
+          small = omega (arith, k .small, ten);
+          says = k .says
+              ∙ rw digit;
+          many = k .many ∙ rw digit (omega arith);
+        }

@@ -74,5 +74,7 @@ module _ (text : List ℕ) (at : ℕ) (s : RowSeen) (so : s ≡ rowSeen text at)
             right = all;
             row = cc;
             inside = omega (arith, length-drop at text);
-            rest = rw place (sym (drop-drop (length here) at text) ∙ ap (drop (length here)) stands ∙ drop-append-seam here rest);
+            rest =
+                rw place (sym (drop-drop (length here) at text) ∙ ap (drop (length here)) stands
+                ∙ drop-append-seam here rest);
           }

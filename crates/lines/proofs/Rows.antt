@@ -13,7 +13,8 @@ use native.Mathlib.Omega.{arith}
 use borrow.Author.Tests.{lt-ltb, le-ltb}
 use lib.ListN.{length, getD, set, take, drop, length-set, length-drop, length-append, drop-of-length-le}
 use lib.Seq.{drop-cons, take-suc-set, take-all, append-snoc}
-use Rattle.text.specs.Text.{line-feed, row-keys, rowBy, rowText, lineGood, lineRest, valuesAt, behindLines, wrongLine, rowAt}
+use Rattle.text.specs.Text.{line-feed, row-keys, rowBy, rowText, lineGood, lineRest, valuesAt, behindLines, wrongLine}
+use Rattle.text.specs.Text.{rowAt}
 use Rattle.text.proofs.RowLaws.{Right, row-stands}
 use Rattle.lines.proofs.Seen.{Seen}
 use Rattle.lines.specs.declared.RowSeen.the-variants.{Whole, Broken}
@@ -63,7 +64,8 @@ pub none-reached : (keys : List (List ℕ)) (text : List ℕ) (at : ℕ) (vs : L
 none-reached keys text at vs h e =
     record { few = omega arith; inside = h; long = e; counted = omega arith; past = refl; said = refl }
 
-module _ {keys : List (List ℕ)} {text : List ℕ} {at : ℕ} {vs : List ℕ} {next j : ℕ} (k : Reached keys text at vs next j) where
+module _ {keys : List (List ℕ)} {text : List ℕ} {at : ℕ} {vs : List ℕ} {next j : ℕ}
+    (k : Reached keys text at vs next j) where
   module _ (more : j < length keys) where
     key-next : drop j keys ≡ getD keys j [] ∷ drop (j + 1) keys
     key-next = rw add-one (drop-cons keys j [] more)
@@ -76,7 +78,8 @@ module _ {keys : List (List ℕ)} {text : List ℕ} {at : ℕ} {vs : List ℕ} {
         → Reached keys text at (set vs j v) end (j + 1)
     unfolding rightLines behindLines valuesAt
     more-reached v end s =
-        let front : take (j + 1) (set vs j v) ≡ take j vs ++ (v ∷ []) = rw add-one (take-suc-set vs j v (omega (arith, k .long))) in
+        let front : take (j + 1) (set vs j v) ≡ take j vs ++ (v ∷ []) =
+        rw add-one (take-suc-set vs j v (omega (arith, k .long))) in
         let rest = valuesAt (drop (j + 1) keys) (drop end text) in
         record {
           few = omega arith;
@@ -115,7 +118,9 @@ module _ {text : List ℕ} {at : ℕ} {vs : List ℕ} {next j : ℕ} (k : Reache
       let from = drop at text in
       let right = right-all row-keys from (all-right k done) in
       let row : rowBy vs ≡ rowAt from = ap rowBy (sym (all-said k done)) in
-      let stands = ap length (row-stands from right) ∙ length-append (rowText (rowAt from)) (behindLines row-keys from) in
-      let rest : length (behindLines row-keys from) ≡ length text - next = ap length (all-past k done) ∙ length-drop next text in
+      let stands = ap length (row-stands from right)
+      ∙ length-append (rowText (rowAt from)) (behindLines row-keys from) in
+      let rest : length (behindLines row-keys from) ≡ length text - next = ap length (all-past k done)
+      ∙ length-drop next text in
       let place : next ≡ at + length (rowText (rowAt from)) = omega (arith, stands, length-drop at text, k .inside) in
       cc (row, place, le-ltb (rightLines row-keys from) (length row-keys) (all-right k done))

@@ -1,4 +1,5 @@
-// Reads at a place of a text: a number behind a key, digit by digit, up to the mark that ends it, a line, and the lines of a row.
+// Reads at a place of a text: a number behind a key, digit by digit, up to the mark that ends it, a line, and the lines
+// of a row.
 ghost use mathlib.Core.Path.{_≡_};
 ghost use mathlib.Core.Bool.{false};
 ghost use Prim.Native.Nat.{_≤_};
@@ -25,7 +26,8 @@ pub enum Item {
     Wrong,
 }
 
-// The lines of a row at a place: the row and the place behind them, or how many are right before the first that is wrong.
+// The lines of a row at a place: the row and the place behind them, or how many are right before the first that is
+// wrong.
 pub enum RowSeen {
     Whole(Row, usize),
     Broken(u16),
@@ -53,7 +55,8 @@ fn figures_at(text: &[u8], at: usize) -> Figures
     Figures { value, count: i }
 }
 
-// The number behind a key at a place of a text: exactly the key, a numeral of 0 to 65,535 with no leading zero, and a mark that is no digit.
+// The number behind a key at a place of a text: exactly the key, a numeral of 0 to 65,535 with no leading zero, and a
+// mark that is no digit.
 pub fn item_at(text: &[u8], at: usize, key: &[u8], mark: u8) -> Item
     requires { ⌜ (at ≤ length (now text)) × (isDigit mark ≡ false) ⌝ }
     ensures { λ r. ⌜ r ≡ itemSeen (now (key .entry)) mark (now (text .entry)) at ⌝ }

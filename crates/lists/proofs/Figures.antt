@@ -19,7 +19,8 @@ total-suc [] i h = absurd (not-suc-le-zero h)
 total-suc (x ∷ xs) zero h = omega arith
 total-suc (x ∷ xs) (suc i) h = omega (arith, total-suc xs i (le-of-suc-le-suc h))
 
-largest-suc : (xs : List ℕ) (i : ℕ) → i < length xs → largest (take (suc i) xs) ≡ max (largest (take i xs)) (getD xs i 0)
+largest-suc : (xs : List ℕ) (i : ℕ) → i < length xs
+    → largest (take (suc i) xs) ≡ max (largest (take i xs)) (getD xs i 0)
 unfolding largest
 largest-suc [] i h = absurd (not-suc-le-zero h)
 largest-suc (x ∷ xs) zero h = omega arith
@@ -28,7 +29,8 @@ largest-suc (x ∷ xs) (suc i) h = omega (arith, largest-suc xs i (le-of-suc-le-
 pub total-more : (xs : List ℕ) (i : ℕ) → i < length xs → total (take (i + 1) xs) ≡ total (take i xs) + getD xs i 0
 total-more xs i h = rw add-one (total-suc xs i h)
 
-pub largest-more : (xs : List ℕ) (i : ℕ) → i < length xs → largest (take (i + 1) xs) ≡ max (largest (take i xs)) (getD xs i 0)
+pub largest-more : (xs : List ℕ) (i : ℕ) → i < length xs
+    → largest (take (i + 1) xs) ≡ max (largest (take i xs)) (getD xs i 0)
 largest-more xs i h = rw add-one (largest-suc xs i h)
 
 pub total-below : (m : ℕ) (xs : List ℕ) → ((i : ℕ) → i < length xs → getD xs i 0 ≤ m) → total xs ≤ m * length xs

@@ -43,4 +43,5 @@ module _ {ℓ} {A : Type ℓ} where
   filled-past f d i j e h =
       let sum : j ≡ length (build i f) + (j - i) = omega (arith, length-build i f) in
       let back : i + (j - i) ≡ j = omega arith in
-      ap (λ (k : ℕ). getD (filled f d i) k e) sum ∙ getD-append-add (build i f) (drop i d) (j - i) e ∙ getD-drop i d (j - i) e ∙ ap (λ (k : ℕ). getD d k e) back
+      ap (λ (k : ℕ). getD (filled f d i) k e) sum ∙ getD-append-add (build i f) (drop i d) (j - i) e
+      ∙ getD-drop i d (j - i) e ∙ ap (λ (k : ℕ). getD d k e) back

@@ -26,7 +26,8 @@ module _ (x : ℕ) (part : List ℕ) (i : ℕ) where
   unfolding firstPlace
   place-here h e = rw (drop-cons part i 0 h, eq-eqb x (getD part i 0) e) (omega arith)
 
-  pub place-next : i < length part → (x ≡ getD part i 0 → ⊥) → i + firstPlace x (drop i part) ≡ i + 1 + firstPlace x (drop (i + 1) part)
+  pub place-next : i < length part → (x ≡ getD part i 0 → ⊥)
+      → i + firstPlace x (drop i part) ≡ i + 1 + firstPlace x (drop (i + 1) part)
   unfolding firstPlace
   place-next h other = rw (drop-cons part i 0 h, ne-eqb x (getD part i 0) other, add-one i) (omega arith)
 
@@ -56,7 +57,9 @@ module _ (x : ℕ) where
   found-there [] h = absurd (not-suc-le-zero h)
   found-there (y ∷ ys) h = go (eqb x y) refl h (found-there ys)
     where
-      go : (b : Bool) → eqb x y ≡ b → cond b 0 (suc (firstPlace x ys)) < suc (length ys) → (firstPlace x ys < length ys → getD ys (firstPlace x ys) 0 ≡ x) → getD (y ∷ ys) (cond b 0 (suc (firstPlace x ys))) 0 ≡ x
+      go : (b : Bool) → eqb x y ≡ b → cond b 0 (suc (firstPlace x ys)) < suc (length ys)
+          → (firstPlace x ys < length ys → getD ys (firstPlace x ys) 0 ≡ x)
+          → getD (y ∷ ys) (cond b 0 (suc (firstPlace x ys))) 0 ≡ x
       go true f h rest = sym (eqb-true x y f)
       go false f h rest = rest (omega arith)
 
@@ -66,7 +69,8 @@ module _ (x : ℕ) where
   not-before [] i h e = omega arith
   not-before (y ∷ ys) i h e = go (eqb x y) refl i h e (not-before ys)
     where
-      go : (b : Bool) → eqb x y ≡ b → (i : ℕ) → i < cond b 0 (suc (firstPlace x ys)) → getD (y ∷ ys) i 0 ≡ x → ((j : ℕ) → j < firstPlace x ys → getD ys j 0 ≡ x → ⊥) → ⊥
+      go : (b : Bool) → eqb x y ≡ b → (i : ℕ) → i < cond b 0 (suc (firstPlace x ys)) → getD (y ∷ ys) i 0 ≡ x
+          → ((j : ℕ) → j < firstPlace x ys → getD ys j 0 ≡ x → ⊥) → ⊥
       go true f i h e rest = omega arith
       go false f zero h e rest = eqb-false x y f (sym e)
       go false f (suc j) h e rest = rest j (le-of-suc-le-suc h) e
@@ -85,6 +89,8 @@ largest-there [] some = absurd (omega arith)
 largest-there (x ∷ []) some = (0, record { inside = omega arith; here = omega arith })
 largest-there (x ∷ y ∷ ys) some = go (decLe (largest (y ∷ ys)) x) (largest-there (y ∷ ys) (omega arith))
   where
-    go : Dec (largest (y ∷ ys) ≤ x) → ((i : ℕ) × Stands (largest (y ∷ ys)) (y ∷ ys) i) → (i : ℕ) × Stands (largest (x ∷ y ∷ ys)) (x ∷ y ∷ ys) i
+    go : Dec (largest (y ∷ ys) ≤ x) → ((i : ℕ) × Stands (largest (y ∷ ys)) (y ∷ ys) i) → (i : ℕ)
+        × Stands (largest (x ∷ y ∷ ys)) (x ∷ y ∷ ys) i
     go (yes l) rest = (0, record { inside = omega arith; here = omega arith })
-    go (no l) rest = (suc (rest .0), record { inside = omega (arith, rest .1 .inside); here = rest .1 .here ∙ omega arith })
+    go (no l) rest =
+        (suc (rest .0), record { inside = omega (arith, rest .1 .inside); here = rest .1 .here ∙ omega arith })

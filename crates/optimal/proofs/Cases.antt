@@ -1,4 +1,5 @@
--- Small lists of entries, and whether each is legal and meets its table, computed on the definitions by one statement over
+-- Small lists of entries, and whether each is legal and meets its table, computed on the definitions by one statement
+-- over
 -- the list of cases.
 -- A definition of `Legal`, `Meets` or `Schedule` that said less, or more, of them would give another list.
 -- Assumes nothing.
@@ -135,6 +136,7 @@ unfolding row case cases computed decide largest distance standing place moved n
     legal-decided meets-decided schedule-decided
 schedules-computed = refl
 
--- Of each case, that its list is legal, or that it is not; that it meets its table, or not; that it is a schedule, or not.
+-- Of each case, that its list is legal, or that it is not; that it meets its table, or not; that it is a schedule, or
+-- not.
 schedules-as-said : Each cases
 schedules-as-said = rw schedules-computed at (holds cases)

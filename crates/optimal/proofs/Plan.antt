@@ -38,7 +38,8 @@ module _ (T : Traffic) (start : List ℕ) where
       go : Dec (t < slots) → (t < slots → namedIn T plan t ≡ slotOf T t (stateAt T start t))
           → take n (drop (t * n) (plan ++ slot)) ≡ slotOf T t (stateAt T start t)
       go (yes d) more =
-          let room : t * n + n ≤ length plan = omega (arith, plan-length T start slots, suc-mul t n, mul-le-mul-right n d) in
+          let room : t * n + n ≤ length plan =
+          omega (arith, plan-length T start slots, suc-mul t n, mul-le-mul-right n d) in
           let rest : n ≤ length (drop (t * n) plan) = omega (arith, length-drop (t * n) plan) in
           rw (drop-append-le (t * n) plan slot (omega arith), take-append-le n (drop (t * n) plan) slot rest) (more d)
       go (no d) more =

@@ -3,7 +3,8 @@
 --     reading-has-sentence, writing-has-sentence                    the text
 --     opening-has-sentence, edit-has-sentence, row-has-sentence     editing
 --     judging-has-sentence, put-has-sentence                        the catalogue itself
--- Each goes through all the refusals of what an entry point promises, so a new refusal without a key in the catalogue fails here.
+-- Each goes through all the refusals of what an entry point promises, so a new refusal without a key in the catalogue
+-- fails here.
 -- Assumes nothing.
 use mathlib.Core.Path.{refl}
 use mathlib.Core.Bool.{Bool, cond, _||_}
@@ -21,7 +22,8 @@ use Rattle.planner.specs.Planner.{planRoom, ending, answerToRows, afterVerdict,
 use Rattle.text.specs.declared.Reading.{Reading}
 use Rattle.text.specs.declared.Writing.{Writing}
 use Rattle.text.specs.declared.Writing.the-variants.{Written, Refused as NotWritten}
-use Rattle.text.specs.Text.{nodes-key, rows-key, textOf, lineGood, lineRest, wrongLine, rowsKeys, nodesIn, rowsIn, bodyOf, readingOfRows, readingOfBody, readingOf, writingOf}
+use Rattle.text.specs.Text.{nodes-key, rows-key, textOf, lineGood, lineRest, wrongLine, rowsKeys, nodesIn, rowsIn}
+use Rattle.text.specs.Text.{bodyOf, readingOfRows, readingOfBody, readingOf, writingOf}
 use Rattle.area.specs.Area as Area
 use Rattle.area.specs.Area.{most-links, countIn}
 use Rattle.edit.specs.declared.Entry.{Entry}
@@ -57,7 +59,9 @@ flat-verdict-told (Refused r) t = t
 row-told : (n : ℕ) (r : Row) → Told (rowRefusal n r)
 unfolding rowRefusal isIn firstPlace
 row-told n r =
-    either Told (leb n (r .src)) refl (either Told (leb n (r .dst)) refl (either Told (eqb (r .src) (r .dst)) refl (either Told (eqb (r .due) 0 || ltb latest-due (r .due)) refl refl)))
+    either Told (leb n (r .src)) refl
+    (either Told (leb n (r .dst)) refl
+    (either Told (eqb (r .src) (r .dst)) refl (either Told (eqb (r .due) 0 || ltb latest-due (r .due)) refl refl)))
 
 rows-told : (n : ℕ) (rows : List Row) (above : ℕ) → ToldVerdict (judgeRows n rows above)
 unfolding judgeRows ToldVerdict isIn firstPlace
@@ -66,7 +70,9 @@ rows-told n (r ∷ rows) above = either ToldVerdict (eqb (rowRefusal n r) 0) (ro
 
 table-told : (n : ℕ) (rows : List Row) → ToldVerdict (judge n rows)
 unfolding judge ToldVerdict isIn firstPlace
-table-told n rows = either ToldVerdict (ltb n 2 || ltb 32 n) refl (either ToldVerdict (ltb most-rows (length rows)) refl (rows-told n rows 0))
+table-told n rows =
+    either ToldVerdict (ltb n 2 || ltb 32 n) refl
+    (either ToldVerdict (ltb most-rows (length rows)) refl (rows-told n rows 0))
 
 -- The answer to a table.
 after-told : (v : Verdict) (next : Answer) → ToldVerdict v → ToldAnswer next → ToldAnswer (afterVerdict v next)
@@ -74,13 +80,18 @@ unfolding afterVerdict ToldVerdict flatOf
 after-told Good next t u = u
 after-told (Refused r) next t u = t
 
-answer-told : (n : ℕ) (rows : List Row) (plan-lent arrivals-lent : ℕ) → ToldAnswer (theAnswer n rows plan-lent arrivals-lent)
+answer-told : (n : ℕ) (rows : List Row) (plan-lent arrivals-lent : ℕ)
+    → ToldAnswer (theAnswer n rows plan-lent arrivals-lent)
 unfolding theAnswer answerToRows flatOf isIn firstPlace
 answer-told n rows plan-lent arrivals-lent =
-    after-told (judge n rows) (answerToRows n rows plan-lent arrivals-lent) (table-told n rows) (either ToldAnswer (ltb plan-lent (planRoom n rows)) refl (either ToldAnswer (ltb arrivals-lent (length rows)) refl (either ToldAnswer (eqb (ending n rows .row) 0) refl refl)))
+    after-told (judge n rows) (answerToRows n rows plan-lent arrivals-lent) (table-told n rows)
+    (either ToldAnswer (ltb plan-lent (planRoom n rows)) refl
+    (either ToldAnswer (ltb arrivals-lent (length rows)) refl
+    (either ToldAnswer (eqb (ending n rows .row) 0) refl refl)))
 
 -- Whatever planning answers has a sentence.
-pub plan-has-sentence : {n : ℕ} {rows : List Row} {p a p′ a′ : List ℕ} {r : PlanAnswer} → PanelPlanned n rows p a r p′ a′ → Told (r .number)
+pub plan-has-sentence : {n : ℕ} {rows : List Row} {p a p′ a′ : List ℕ} {r : PlanAnswer}
+    → PanelPlanned n rows p a r p′ a′ → Told (r .number)
 plan-has-sentence {n} {rows} {p} {a} d = rw (d .answers) (answer-told n rows (length p) (length a))
 
 -- ---- the text
@@ -91,21 +102,26 @@ lines-told n k body = either ToldReading (eqb (wrongLine (rowsKeys k) body 3) 0)
 
 body-told : (n k lent : ℕ) (body : List ℕ) → ToldReading (readingOfBody n k lent body)
 unfolding readingOfBody flatReading isIn firstPlace
-body-told n k lent body = either ToldReading (ltb most-rows k) refl (either ToldReading (ltb lent k) refl (lines-told n k body))
+body-told n k lent body =
+    either ToldReading (ltb most-rows k) refl (either ToldReading (ltb lent k) refl (lines-told n k body))
 
 reading-told : (text : List ℕ) (lent : ℕ) → ToldReading (readingOf text lent)
 unfolding readingOf flatReading isIn firstPlace
 reading-told text lent =
-    either ToldReading (lineGood nodes-key text) (either ToldReading (lineGood rows-key (lineRest nodes-key text)) (body-told (nodesIn text) (rowsIn text) lent (bodyOf text)) refl) refl
+    either ToldReading (lineGood nodes-key text)
+    (either ToldReading (lineGood rows-key (lineRest nodes-key text))
+    (body-told (nodesIn text) (rowsIn text) lent (bodyOf text)) refl) refl
 
 -- Whatever reading answers has a sentence.
-pub reading-has-sentence : {text : List ℕ} {rows rows′ : List Row} {r : ReadAnswer} → PanelRead text rows r rows′ → Told (r .number)
+pub reading-has-sentence : {text : List ℕ} {rows rows′ : List Row} {r : ReadAnswer} → PanelRead text rows r rows′
+    → Told (r .number)
 reading-has-sentence {text} {rows} d = rw (d .answers) (reading-told text (length rows))
 
 writing-told : (n : ℕ) (rows : List Row) (room : ℕ) → ToldWriting (writingOf n rows room)
 unfolding writingOf ToldWriting isIn firstPlace
 writing-told n rows room =
-    either ToldWriting (ltb most-rows (length rows)) refl (either ToldWriting (ltb room (length (textOf n rows))) refl refl)
+    either ToldWriting (ltb most-rows (length rows)) refl
+    (either ToldWriting (ltb room (length (textOf n rows))) refl refl)
 
 -- A writing has one as plain numbers too, of a table or of a catalogue.
 flat-writing-told : (w : Writing) → ToldWriting w → Told (flatWriting w .number)
@@ -119,8 +135,10 @@ flat-sentence-told (Written k) t = t
 flat-sentence-told (NotWritten r) t = t
 
 -- Whatever writing answers has a sentence.
-pub writing-has-sentence : {n : ℕ} {rows : List Row} {area area′ : List ℕ} {r : WriteAnswer} → PanelWritten n rows area r area′ → Told (r .number)
-writing-has-sentence {n} {rows} {area} d = rw (d .answers) (flat-writing-told (writingOf n rows (length area)) (writing-told n rows (length area)))
+pub writing-has-sentence : {n : ℕ} {rows : List Row} {area area′ : List ℕ} {r : WriteAnswer}
+    → PanelWritten n rows area r area′ → Told (r .number)
+writing-has-sentence {n} {rows} {area} d =
+    rw (d .answers) (flat-writing-told (writingOf n rows (length area)) (writing-told n rows (length area)))
 
 -- ---- editing
 -- A verdict by its number, and the first of two refusals.
@@ -148,21 +166,27 @@ number-told count k = either Told (eqb k 0 || ltb count k) refl refl
 refusal-told : (n count : ℕ) (e : Edit) → Told (refusalOf n count e)
 unfolding refusalOf
 refusal-told n count (Add r) = first-told _ _ (size-told n count) (first-told _ _ (full-told count) (row-told n r))
-refusal-told n count (Change k r) = first-told _ _ (first-told _ _ (size-told n count) (number-told count k)) (row-told n r)
+refusal-told n count (Change k r) =
+    first-told _ _ (first-told _ _ (size-told n count) (number-told count k)) (row-told n r)
 refusal-told n count (Remove k) = first-told _ _ (size-told n count) (number-told count k)
 
 -- Whatever opening a table answers has a sentence.
 pub opening-has-sentence : {n : ℕ} {s s′ : List ℕ} {r : EditAnswer} → PanelOpened n s r s′ → Told (r .number)
-opening-has-sentence {n} d = rw (d .answers) (flat-verdict-told (verdictBy (sizeRefusal n 0) 0) (by-told (sizeRefusal n 0) 0 (size-told n 0)))
+opening-has-sentence {n} d =
+    rw (d .answers) (flat-verdict-told (verdictBy (sizeRefusal n 0) 0) (by-told (sizeRefusal n 0) 0 (size-told n 0)))
 
 -- Whatever an edit answers has a sentence.
 pub edit-has-sentence : {s s′ : List ℕ} {e : Edit} {r : EditAnswer} → PanelEdited s e r s′ → Told (r .number)
-edit-has-sentence {s} {s′} {e} d = rw (d .answers) (flat-verdict-told (verdictBy (editRefusal s e) (aboutRow s e)) (by-told (editRefusal s e) (aboutRow s e) (refusal-told (Area.nodesIn s) (countIn s) e)))
+edit-has-sentence {s} {s′} {e} d =
+    rw (d .answers) (flat-verdict-told (verdictBy (editRefusal s e) (aboutRow s e))
+    (by-told (editRefusal s e) (aboutRow s e) (refusal-told (Area.nodesIn s) (countIn s) e)))
 
 -- Whatever asking for a row answers has a sentence.
 pub row-has-sentence : (s : List ℕ) (k : ℕ) → Told (flatEntry (entryOf s k) .number)
 unfolding entryOf flatEntry isIn firstPlace
-row-has-sentence s k = either (λ (x : Entry). Told (flatEntry x .number)) (eqb (editRefusal s (Remove k)) 0) refl (refusal-told (Area.nodesIn s) (countIn s) (Remove k))
+row-has-sentence s k =
+    either (λ (x : Entry). Told (flatEntry x .number)) (eqb (editRefusal s (Remove k)) 0) refl
+    (refusal-told (Area.nodesIn s) (countIn s) (Remove k))
 
 -- ---- the catalogue
 -- Whatever judging a catalogue answers has a sentence.
@@ -170,6 +194,8 @@ pub judging-has-sentence : (text : List ℕ) → Told (flatVerdict (verdictOn te
 judging-has-sentence text = flat-verdict-told (verdictOn text) (verdict-told text)
 
 -- Whatever writing a sentence or a label answers has a sentence.
-pub put-has-sentence : {text : List ℕ} {found : Bool} {bytes area area′ : List ℕ} {r : SentenceAnswer} → PanelPut text found bytes area r area′ → Told (r .number)
+pub put-has-sentence : {text : List ℕ} {found : Bool} {bytes area area′ : List ℕ} {r : SentenceAnswer}
+    → PanelPut text found bytes area r area′ → Told (r .number)
 put-has-sentence {text} {found} {bytes} {area} d =
-    rw (d .answers) (flat-sentence-told (Sentence.afterVerdict (verdictOn text) found bytes (length area)) (put-told text found bytes (length area)))
+    rw (d .answers) (flat-sentence-told (Sentence.afterVerdict (verdictOn text) found bytes (length area))
+    (put-told text found bytes (length area)))

@@ -24,12 +24,15 @@ use Rattle.flat.specs.declared.WriteAnswer.{WriteAnswer}
 use Rattle.flat.specs.declared.SentenceAnswer.{SentenceAnswer}
 
 -- The full outcome of planning from the panel: the flattened answer, and every entry of both lent areas.
-pub record PanelPlanned (n : ℕ) (rows : List Row) (plan arrivals : List ℕ) (r : PlanAnswer) (plan′ arrivals′ : List ℕ) : Type 0 where
+pub record PanelPlanned (n : ℕ) (rows : List Row) (plan arrivals : List ℕ) (r : PlanAnswer)
+    (plan′ arrivals′ : List ℕ) : Type 0 where
   pub answers : r ≡ flatOf (theAnswer n rows (length plan) (length arrivals))
   pub fills-plan : plan′ ≡ areaAfter (theAnswer n rows (length plan) (length arrivals)) (thePlan n rows) plan
-  pub fills-arrivals : arrivals′ ≡ areaAfter (theAnswer n rows (length plan) (length arrivals)) (theArrivals n rows) arrivals
+  pub fills-arrivals : arrivals′ ≡ areaAfter (theAnswer n rows (length plan) (length arrivals))
+      (theArrivals n rows) arrivals
 
--- The full outcome of reading from the panel: the flattened reading, and every lent row: those of the text in front, and behind them what stood there. A refused reading gives no rows.
+-- The full outcome of reading from the panel: the flattened reading, and every lent row: those of the text in front,
+-- and behind them what stood there. A refused reading gives no rows.
 pub record PanelRead (text : List ℕ) (rows : List Row) (r : ReadAnswer) (rows′ : List Row) : Type 0 where
   pub answers : r ≡ flatReading (readingOf text (length rows))
   pub fills : rows′ ≡ rowsRead text (length rows) ++ drop (length (rowsRead text (length rows))) rows
@@ -49,8 +52,10 @@ pub record PanelEdited (s : List ℕ) (e : Edit) (r : EditAnswer) (s′ : List �
   pub answers : r ≡ flatVerdict (verdictBy (editRefusal s e) (aboutRow s e))
   pub fills : s′ ≡ Edit.areaAfter s e
 
--- The full outcome of writing bytes of a catalogue from the panel: the flattened writing, and every byte of the lent area.
-pub record PanelPut (text : List ℕ) (found : Bool) (bytes area : List ℕ) (r : SentenceAnswer) (area′ : List ℕ) : Type 0 where
+-- The full outcome of writing bytes of a catalogue from the panel: the flattened writing, and every byte of the lent
+-- area.
+pub record PanelPut (text : List ℕ) (found : Bool) (bytes area : List ℕ) (r : SentenceAnswer)
+    (area′ : List ℕ) : Type 0 where
   pub answers : r ≡ flatSentence (Sentence.afterVerdict (verdictOn text) found bytes (length area))
   pub fills : area′ ≡ Sentence.areaAfter (Sentence.afterVerdict (verdictOn text) found bytes (length area)) bytes area
 

@@ -6,7 +6,8 @@ ghost use Rattle.area.specs.Area.{countIn, nodesIn, rowsIn, loadsIn, busiestIn}
 ghost use Rattle.edit.specs.Edit.{entryOf};
 ghost use Rattle.judge.specs.Judge.{Add, Change, Remove};
 ghost use Rattle.flat.specs.Flat.{flatVerdict, flatEntry, flatLink};
-ghost use Rattle.panel.specs.Panel.{PanelPlanned, PanelRead, PanelWritten, PanelOpened, PanelEdited, PanelSentence, PanelLabel};
+ghost use Rattle.panel.specs.Panel.{PanelPlanned, PanelRead, PanelWritten, PanelOpened, PanelEdited};
+ghost use Rattle.panel.specs.Panel.{PanelSentence, PanelLabel};
 ghost use Rattle.panel.specs.Steps.{FlatRead};
 ghost use Rattle.catalogue.specs.Catalogue.{verdictOn};
 use area::Area;
@@ -61,7 +62,8 @@ fn plan_flat(
     plan: &mut [u16],
     arrivals: &mut [u16],
 ) -> PlanAnswer
-    ensures { λ r. ⌜ PanelPlanned nodes (listed rows columns) (now (plan .entry)) (now (arrivals .entry)) r (now (plan .exit)) (now (arrivals .exit)) ⌝ }
+    ensures { λ r. ⌜ PanelPlanned nodes (listed rows columns) (now (plan .entry)) (now (arrivals .entry)) r
+        (now (plan .exit)) (now (arrivals .exit)) ⌝ }
 {
     let answer = planner::plan_columns(nodes, rows, columns, plan, arrivals);
     flat_answer(answer)
@@ -83,7 +85,8 @@ pub extern "C" fn garboardle_plan(
     plan: &mut [u16],
     arrivals: &mut [u16],
 ) -> PlanAnswer
-    ensures { λ r. ⌜ PanelPlanned nodes (now (rows .entry)) (now (plan .entry)) (now (arrivals .entry)) r (now (plan .exit)) (now (arrivals .exit)) ⌝ }
+    ensures { λ r. ⌜ PanelPlanned nodes (now (rows .entry)) (now (plan .entry)) (now (arrivals .entry)) r
+        (now (plan .exit)) (now (arrivals .exit)) ⌝ }
 {
     let count = rows.len();
     let columns = load(rows);
@@ -182,7 +185,8 @@ pub extern "C" fn garboardle_plan_table(
     plan: &mut [u16],
     arrivals: &mut [u16],
 ) -> PlanAnswer
-    ensures { λ r. ⌜ PanelPlanned (nodesIn (now (table .entry))) (rowsIn (now (table .entry))) (now (plan .entry)) (now (arrivals .entry)) r (now (plan .exit)) (now (arrivals .exit)) ⌝ }
+    ensures { λ r. ⌜ PanelPlanned (nodesIn (now (table .entry))) (rowsIn (now (table .entry))) (now (plan .entry))
+        (now (arrivals .entry)) r (now (plan .exit)) (now (arrivals .exit)) ⌝ }
 {
     let rows = area::row_count(table) as usize;
     let columns = area::columns_of(table);

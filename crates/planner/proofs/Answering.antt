@@ -32,11 +32,16 @@ module _ {T : Traffic} {start plan₀ arrivals₀ left′ plan′ arrivals′ : 
   areas answer e =
       record {
         answers = e ∙ ap (answerToRun T start) (ran .stops);
-        carries = ran .carries ∙ ap (λ s. cond (eqb (s .row) 0) (planOf T start last) (replicate (length plan₀) 0)) (ran .stops);
-        arrives = ran .arrives ∙ ap (λ s. cond (eqb (s .row) 0) (arrivalsOf T start last) (replicate (length start) 0)) (ran .stops);
+        carries =
+            ran .carries ∙ ap (λ s. cond (eqb (s .row) 0) (planOf T start last) (replicate (length plan₀) 0))
+            (ran .stops);
+        arrives =
+            ran .arrives ∙ ap (λ s. cond (eqb (s .row) 0) (arrivalsOf T start last) (replicate (length start) 0))
+            (ran .stops);
       }
 
-  pub run-accepted : stop .row ≡ 0 → (sends : ℕ) → sends ≡ total start → (most : ℕ) → most ≡ largest arrivals′ → (s : Summary) → s ≡ summaryOf (length arrivals′) sends (T .nodes * most) arrivals′
+  pub run-accepted : stop .row ≡ 0 → (sends : ℕ) → sends ≡ total start → (most : ℕ) → most ≡ largest arrivals′
+      → (s : Summary) → s ≡ summaryOf (length arrivals′) sends (T .nodes * most) arrivals′
       → RunPlanned T start (length plan₀) (Accepted s) plan′ arrivals′
   unfolding answerToRun
   run-accepted on-time sends e most m s sums = areas (Accepted s) (ap Accepted (sums ∙ figures) ∙ rw (on-time))
@@ -44,9 +49,11 @@ module _ {T : Traffic} {start plan₀ arrivals₀ left′ plan′ arrivals′ : 
       there : arrivals′ ≡ arrivalsOf T start last
       there = ran .arrives ∙ rw on-time
 
-      figures : summaryOf (length arrivals′) sends (T .nodes * most) arrivals′ ≡ summaryOf (length start) (total start) (T .nodes * largest (arrivalsOf T start last)) (arrivalsOf T start last)
+      figures : summaryOf (length arrivals′) sends (T .nodes * most) arrivals′ ≡ summaryOf (length start) (total start)
+          (T .nodes * largest (arrivalsOf T start last)) (arrivalsOf T start last)
       figures = rw (m, there, arrivals-long T start last, e)
 
-  pub run-refused : (stop .row ≡ 0 → ⊥) → RunPlanned T start (length plan₀) (Refused (refuse 9 (stop .row) (stop .slot .0))) plan′ arrivals′
+  pub run-refused : (stop .row ≡ 0 → ⊥)
+      → RunPlanned T start (length plan₀) (Refused (refuse 9 (stop .row) (stop .slot .0))) plan′ arrivals′
   unfolding answerToRun
   run-refused is-late = areas (Refused (refuse 9 (stop .row) (stop .slot .0))) (rw (ne-eqb (stop .row) 0 is-late))

@@ -1,4 +1,5 @@
--- Document 01's sweep table, A to H, J, K with 1025 and L, computed on the definitions by one statement over the list of cases.
+-- Document 01's sweep table, A to H, J, K with 1025 and L, computed on the definitions by one statement over the list
+-- of cases.
 -- Each case lends areas of 20 and 4 entries that hold 7, so that it shows which entries are touched, too.
 -- Assumes nothing.
 use mathlib.Core.Path.{_≡_, refl}
@@ -14,10 +15,12 @@ use Rattle.ring.specs.Ring.{distance, standing}
 use Rattle.table.specs.declared.Row.{Row}
 use Rattle.table.specs.Table.{refuse, rowRefusal, judgeRows, judge, destinations, dues, distances, lastDue}
 use Rattle.table.specs.Steps.{sources}
-use Rattle.slack.specs.Slack.{underWay, place, slackOf, slack, isLate, lateFrom, lateRow, better, pick, slotOf, moved, stateAt, planOf, deliveredFrom, arrivalsOf, anyUnderWay, stopFrom, stopOf}
+use Rattle.slack.specs.Slack.{underWay, place, slackOf, slack, isLate, lateFrom, lateRow, better, pick, slotOf, moved}
+use Rattle.slack.specs.Slack.{stateAt, planOf, deliveredFrom, arrivalsOf, anyUnderWay, stopFrom, stopOf}
 use Rattle.planner.specs.declared.Answer.{Answer}
 use Rattle.planner.specs.declared.Answer.the-variants.{Accepted, Refused}
-use Rattle.planner.specs.Planner.{ending, thePlan, theArrivals, quotient, summaryOf, theSummary, answerToRows, afterVerdict, theAnswer, areaAfter}
+use Rattle.planner.specs.Planner.{ending, thePlan, theArrivals, quotient, summaryOf, theSummary, answerToRows}
+use Rattle.planner.specs.Planner.{afterVerdict, theAnswer, areaAfter}
 
 -- A row as document 01 writes it: source, destination, due slot.
 row : ℕ → ℕ → ℕ → Row
@@ -37,13 +40,15 @@ sevens n = replicate n 7
 
 -- An acceptance by its figures; floats as sign, whole number and power of two.
 accepted : (last sends sum : ℕ) (mean share : Float) → Answer
-accepted last sends sum mean share = Accepted (record { last = record { 0 = last }; sends = sends; sum = sum; mean = mean; share = share })
+accepted last sends sum mean share =
+    Accepted (record { last = record { 0 = last }; sends = sends; sum = sum; mean = mean; share = share })
 
 refused : (number row slot : ℕ) → Answer
 refused number row slot = Refused (refuse number row slot)
 
 case : ℕ → List Row → Answer → (plan arrivals : List ℕ) → Case
-case nodes rows answer plan arrivals = record { nodes = nodes; rows = rows; answer = answer; plan = plan; arrivals = arrivals }
+case nodes rows answer plan arrivals =
+    record { nodes = nodes; rows = rows; answer = answer; plan = plan; arrivals = arrivals }
 
 -- The sweep table.
 cases : List Case
@@ -52,7 +57,8 @@ cases =
     case 4 (row 0 2 3 ∷ row 0 1 2 ∷ []) (accepted 2 3 4 (fin false 1 (pos 1)) (fin false 3 (negsuc 2)))
     (1 ∷ 0 ∷ 0 ∷ 0 ∷ 2 ∷ 1 ∷ 0 ∷ 0 ∷ 0 ∷ 0 ∷ 0 ∷ 0 ∷ sevens 8) (2 ∷ 2 ∷ sevens 2)
     -- B
-    ∷ case 4 (row 0 1 2 ∷ row 0 3 3 ∷ []) (accepted 3 4 5 (fin false 5 (negsuc 0)) (fin false 6004799503160661 (negsuc 53)))
+    ∷ case 4 (row 0 1 2 ∷ row 0 3 3 ∷ [])
+    (accepted 3 4 5 (fin false 5 (negsuc 0)) (fin false 6004799503160661 (negsuc 53)))
     (2 ∷ 0 ∷ 0 ∷ 0 ∷ 1 ∷ 2 ∷ 0 ∷ 0 ∷ 0 ∷ 0 ∷ 2 ∷ 0 ∷ sevens 8) (2 ∷ 3 ∷ sevens 2)
     -- C
     ∷ case 4 (row 2 0 2 ∷ row 2 3 2 ∷ []) (accepted 2 3 4 (fin false 1 (pos 1)) (fin false 3 (negsuc 2)))
@@ -78,8 +84,10 @@ cases =
 
 -- What the definitions say of a case's table in the lent areas. An area that is left alone is not computed.
 areas : Answer → ℕ → List Row → Bool → List ℕ × List ℕ
-areas answer n rows true = (areaAfter answer (thePlan n rows) (sevens 20), areaAfter answer (theArrivals n rows) (sevens 4))
-areas answer n rows false = let none : List ℕ = [] in (areaAfter answer none (sevens 20), areaAfter answer none (sevens 4))
+areas answer n rows true =
+    (areaAfter answer (thePlan n rows) (sevens 20), areaAfter answer (theArrivals n rows) (sevens 4))
+areas answer n rows false =
+    let none : List ℕ = [] in (areaAfter answer none (sevens 20), areaAfter answer none (sevens 4))
 
 used : Answer → Bool
 used (Accepted s) = true
@@ -95,6 +103,7 @@ computed c =
 sweep-table : map computed cases ≡ cases
 unfolding row accepted case refused cases areas used computed total largest distance standing
     rowRefusal judgeRows judge sources destinations dues distances lastDue
-    underWay place slackOf slack isLate lateFrom lateRow better pick slotOf moved stateAt planOf deliveredFrom arrivalsOf anyUnderWay stopFrom stopOf
+    underWay place slackOf slack isLate lateFrom lateRow better pick slotOf moved stateAt planOf deliveredFrom
+    arrivalsOf anyUnderWay stopFrom stopOf
     ending thePlan theArrivals quotient summaryOf theSummary answerToRows afterVerdict theAnswer areaAfter div ofInt
 sweep-table = refl

@@ -91,7 +91,8 @@ module _ {n : ℕ} {src dst due : List ℕ}
       let r = row i (start-at i h .0) in
       rw (start-at i h .1) (apart n (getD src i 0) (getD dst i 0) (r .src-inside) (r .dst-inside) (r .apart))
 
-  pub runnable : {left : List ℕ} (plan arrivals : List ℕ) → left ≡ start → length plan ≡ n * last → length arrivals ≡ length src → Runnable (traffic n dst due) left plan arrivals
+  pub runnable : {left : List ℕ} (plan arrivals : List ℕ) → left ≡ start → length plan ≡ n * last
+      → length arrivals ≡ length src → Runnable (traffic n dst due) left plan arrivals
   runnable plan arrivals e p a = rw e (
       record {
         ready = record {

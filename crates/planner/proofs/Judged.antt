@@ -45,37 +45,55 @@ module _ (n : ℕ) (rows : List Row) where
   judge-each l m h = rw (le-ltb n 2 l, le-ltb 32 n m, le-ltb 512 (length rows) h)
 
   module _ (plan arrivals : List ℕ) where
-    pub turned-away : {r : Refusal} → judge n rows ≡ verdict.Refused r → r .number < 7 → {answer : Answer} → answer ≡ Refused r → Planned n rows plan arrivals answer plan arrivals
+    pub turned-away : {r : Refusal} → judge n rows ≡ verdict.Refused r → r .number < 7 → {answer : Answer}
+        → answer ≡ Refused r → Planned n rows plan arrivals answer plan arrivals
     unfolding theAnswer afterVerdict areaAfter
     turned-away {r} e early is =
-        rw is (record { answers = rw e; fills-plan = rw (ne-eqb (r .number) 9 (omega arith)); fills-arrivals = rw (ne-eqb (r .number) 9 (omega arith)) })
+        rw is (record {
+          answers = rw e;
+          fills-plan = rw (ne-eqb (r .number) 9 (omega arith));
+          fills-arrivals =
+              rw (ne-eqb (r .number) 9 (omega arith));
+        })
 
-    pub let-through : judge n rows ≡ verdict.Good → {answer : Answer} {plan′ arrivals′ : List ℕ} → GoodPlanned n rows plan arrivals answer plan′ arrivals′ → Planned n rows plan arrivals answer plan′ arrivals′
+    pub let-through : judge n rows ≡ verdict.Good → {answer : Answer} {plan′ arrivals′ : List ℕ}
+        → GoodPlanned n rows plan arrivals answer plan′ arrivals′ → Planned n rows plan arrivals answer plan′ arrivals′
     unfolding theAnswer afterVerdict
     let-through e p =
         record { answers = p .answers ∙ rw e; fills-plan = p .fills-plan; fills-arrivals = p .fills-arrivals }
 
 -- The rows of three columns were judged.
-module _ {n : ℕ} {src dst due : List ℕ} (k : Tabled n src dst due) {v : Verdict} (judged : v ≡ judgeRows n (rowsOf src dst due) 0) where
+module _ {n : ℕ} {src dst due : List ℕ} (k : Tabled n src dst due) {v : Verdict}
+    (judged : v ≡ judgeRows n (rowsOf src dst due) 0) where
   abbrev rows : List Row
   rows = rowsOf src dst due
 
   whole : judge n rows ≡ v
   whole = judge-each n rows (k .least) (k .most) (rw (rows-long src dst due) (k .same .few)) ∙ sym judged
 
-  pub first-bad : {plan arrivals : List ℕ} {r : Refusal} → v ≡ verdict.Refused r → Planned n rows plan arrivals (Refused r) plan arrivals
-  first-bad {plan} {arrivals} e = turned-away n rows plan arrivals (whole ∙ e) (judged-early n rows 0 _ (sym judged ∙ e)) refl
+  pub first-bad : {plan arrivals : List ℕ} {r : Refusal} → v ≡ verdict.Refused r
+      → Planned n rows plan arrivals (Refused r) plan arrivals
+  first-bad {plan} {arrivals} e =
+      turned-away n rows plan arrivals (whole ∙ e) (judged-early n rows 0 _ (sym judged ∙ e)) refl
 
-  pub none-bad : {plan arrivals : List ℕ} {answer : Answer} {plan′ arrivals′ : List ℕ} → v ≡ verdict.Good → GoodPlanned n rows plan arrivals answer plan′ arrivals′ → Planned n rows plan arrivals answer plan′ arrivals′
+  pub none-bad : {plan arrivals : List ℕ} {answer : Answer} {plan′ arrivals′ : List ℕ} → v ≡ verdict.Good
+      → GoodPlanned n rows plan arrivals answer plan′ arrivals′ → Planned n rows plan arrivals answer plan′ arrivals′
   none-bad {plan} {arrivals} e p = let-through n rows plan arrivals (whole ∙ e) p
 
 -- the rows of the columns' fronts
-pub listed-fronts : (count : ℕ) (c : Columns) → count ≤ length (c .src) → listed count c ≡ rowsOf (take count (c .src)) (take count (c .dst)) (take count (c .due))
+pub listed-fronts : (count : ℕ) (c : Columns) → count ≤ length (c .src)
+    → listed count c ≡ rowsOf (take count (c .src)) (take count (c .dst)) (take count (c .due))
 unfolding listed rowsOf
 listed-fronts count c h =
-    rw (length-take-le count (c .src) h) (build-ext count _ _ (λ i l. rw (getD-take count (c .src) i 0 l, getD-take count (c .dst) i 0 l, getD-take count (c .due) i 0 l)))
+    rw (length-take-le count (c .src) h)
+    (build-ext count _ _ (λ i l. rw (
+      getD-take count (c .src) i 0 l,
+      getD-take count (c .dst) i 0 l,
+      getD-take count (c .due) i 0 l,
+    )))
 
-pub fronts-tabled : (n count : ℕ) (c : Columns) → 2 ≤ n → n ≤ 32 → count ≤ 512 → length (c .src) ≡ 512 → length (c .dst) ≡ 512 → length (c .due) ≡ 512
+pub fronts-tabled : (n count : ℕ) (c : Columns) → 2 ≤ n → n ≤ 32 → count ≤ 512 → length (c .src) ≡ 512
+    → length (c .dst) ≡ 512 → length (c .due) ≡ 512
     → Tabled n (take count (c .src)) (take count (c .dst)) (take count (c .due))
 fronts-tabled n count c l m h e f g =
     let s : length (take count (c .src)) ≡ count = length-take-le count (c .src) (omega arith) in
@@ -95,8 +113,10 @@ unfolding judge
 sound n rows e = go (ltb n 2) refl (ltb 32 n) refl (ltb 512 (length rows)) refl e
   where
     go : (a : Bool) → ltb n 2 ≡ a → (b : Bool) → ltb 32 n ≡ b → (c : Bool) → ltb 512 (length rows) ≡ c
-        → cond (a || b) (verdict.Refused (refuse 1 0 0)) (cond c (verdict.Refused (refuse 2 0 0)) (judgeRows n rows 0)) ≡ verdict.Good → Sound n rows
+        → cond (a || b) (verdict.Refused (refuse 1 0 0))
+        (cond c (verdict.Refused (refuse 2 0 0)) (judgeRows n rows 0)) ≡ verdict.Good → Sound n rows
     go true ha b hb c hc f = let never : _≡_ {A = ℕ} 0 1 = cc in absurd (omega arith)
     go false ha true hb c hc f = let never : _≡_ {A = ℕ} 0 1 = cc in absurd (omega arith)
     go false ha false hb true hc f = let never : _≡_ {A = ℕ} 0 1 = cc in absurd (omega arith)
-    go false ha false hb false hc f = record { least = ltb-false n 2 ha; most = ltb-false 32 n hb; few = ltb-false 512 (length rows) hc; each = f }
+    go false ha false hb false hc f =
+        record { least = ltb-false n 2 ha; most = ltb-false 32 n hb; few = ltb-false 512 (length rows) hc; each = f }

@@ -1,5 +1,6 @@
 -- Planning the rows that were loaded is planning the rows that were lent.
--- At most 512 rows are all there in their columns. Of more, no row is looked at: the answer is refusal 1 or 2, by the nodes and the length alone, and the areas are left.
+-- At most 512 rows are all there in their columns. Of more, no row is looked at: the answer is refusal 1 or 2, by the
+-- nodes and the length alone, and the areas are left.
 -- Assumes nothing.
 use mathlib.Core.Path.{_≡_, refl, _∙_, ap, sym, subst}
 use Prim.Native.Nat.{ℕ, _<_}
@@ -25,13 +26,17 @@ number n = cond (ltb n 2 || ltb 32 n) 1 2
 abbrev tooMany : ℕ → Answer
 tooMany n = Refused (refuse (number n) 0 0)
 
-either : (b : Bool) → cond b (verdict.Refused (refuse 1 0 0)) (verdict.Refused (refuse 2 0 0)) ≡ verdict.Refused (refuse (cond b 1 2) 0 0)
+either : (b : Bool) → cond b (verdict.Refused (refuse 1 0 0)) (verdict.Refused (refuse 2 0 0)) ≡ verdict.Refused
+    (refuse (cond b 1 2) 0 0)
 either true = refl
 either false = refl
 
 judged : (n : ℕ) (rows : List Row) → 512 < length rows → judge n rows ≡ verdict.Refused (refuse (number n) 0 0)
 unfolding judge
-judged n rows l = ap (λ (t : Bool). cond (ltb n 2 || ltb 32 n) (verdict.Refused (refuse 1 0 0)) (cond t (verdict.Refused (refuse 2 0 0)) (judgeRows n rows 0))) (lt-ltb 512 (length rows) l) ∙ either (ltb n 2 || ltb 32 n)
+judged n rows l =
+    ap (λ (t : Bool). cond (ltb n 2 || ltb 32 n) (verdict.Refused (refuse 1 0 0))
+    (cond t (verdict.Refused (refuse 2 0 0)) (judgeRows n rows 0))) (lt-ltb 512 (length rows) l)
+    ∙ either (ltb n 2 || ltb 32 n)
 
 answered : (n : ℕ) (rows : List Row) (p a : ℕ) → 512 < length rows → theAnswer n rows p a ≡ tooMany n
 unfolding theAnswer afterVerdict
@@ -43,10 +48,12 @@ not-late false x y = refl
 
 area-left : (n : ℕ) (given before : List ℕ) → areaAfter (tooMany n) given before ≡ before
 unfolding areaAfter
-area-left n given before = not-late (ltb n 2 || ltb 32 n) (replicate (length given) 0 ++ drop (length given) before) before
+area-left n given before =
+    not-late (ltb n 2 || ltb 32 n) (replicate (length given) 0 ++ drop (length given) before) before
 
 -- one table of more than 512 rows is answered as another
-many : (n : ℕ) (rows rows′ : List Row) {p a p′ a′ : List ℕ} {r : Answer} → 512 < length rows → 512 < length rows′ → Planned n rows p a r p′ a′ → Planned n rows′ p a r p′ a′
+many : (n : ℕ) (rows rows′ : List Row) {p a p′ a′ : List ℕ} {r : Answer} → 512 < length rows → 512 < length rows′
+    → Planned n rows p a r p′ a′ → Planned n rows′ p a r p′ a′
 many n rows rows′ {p} {a} {p′} {a′} {r} l l′ d = record {
   answers = is ∙ sym (answered n rows′ (length p) (length a) l′);
   fills-plan = d .fills-plan ∙ same (thePlan n rows) (thePlan n rows′) p;
@@ -57,13 +64,18 @@ many n rows rows′ {p} {a} {p′} {a′} {r} l l′ d = record {
     is = d .answers ∙ answered n rows (length p) (length a) l
 
     same : (given given′ before : List ℕ) → areaAfter r given before ≡ areaAfter r given′ before
-    same given given′ before = ap (λ (x : Answer). areaAfter x given before) is ∙ area-left n given before ∙ sym (area-left n given′ before) ∙ ap (λ (x : Answer). areaAfter x given′ before) (sym is)
+    same given given′ before =
+        ap (λ (x : Answer). areaAfter x given before) is ∙ area-left n given before ∙ sym (area-left n given′ before)
+        ∙ ap (λ (x : Answer). areaAfter x given′ before) (sym is)
 
-pub loaded-planned : (n : ℕ) (rows : List Row) {p a p′ a′ : List ℕ} {r : Answer} → Planned n (listed (length rows) (columns rows)) p a r p′ a′ → Planned n rows p a r p′ a′
+pub loaded-planned : (n : ℕ) (rows : List Row) {p a p′ a′ : List ℕ} {r : Answer}
+    → Planned n (listed (length rows) (columns rows)) p a r p′ a′ → Planned n rows p a r p′ a′
 loaded-planned n rows {p} {a} {p′} {a′} {r} d = go (ltb 512 (length rows)) refl
   where
     go : (t : Bool) → ltb 512 (length rows) ≡ t → Planned n rows p a r p′ a′
     go true e =
         let l : 512 < length rows = ltb-true 512 (length rows) e in
-        many n (listed (length rows) (columns rows)) rows (subst (λ (k : ℕ). 512 < k) (sym (length-listed (length rows) (columns rows))) l) l d
-    go false e = subst (λ (xs : List Row). Planned n xs p a r p′ a′) (listed-columns rows (ltb-false 512 (length rows) e)) d
+        many n (listed (length rows) (columns rows)) rows
+        (subst (λ (k : ℕ). 512 < k) (sym (length-listed (length rows) (columns rows))) l) l d
+    go false e =
+        subst (λ (xs : List Row). Planned n xs p a r p′ a′) (listed-columns rows (ltb-false 512 (length rows) e)) d

@@ -54,16 +54,19 @@ summaryOf rows sends time arrivals =
       share = quotient sends time;
     }
 
--- The summary of a table: its sends are the sum of all distances, and link time counts on N links until the last delivery instant.
+-- The summary of a table: its sends are the sum of all distances, and link time counts on N links until the last
+-- delivery instant.
 unfoldable pub theSummary : ℕ → List Row → Summary
-theSummary n rows = summaryOf (length rows) (total (distances n rows)) (n * largest (theArrivals n rows)) (theArrivals n rows)
+theSummary n rows =
+    summaryOf (length rows) (total (distances n rows)) (n * largest (theArrivals n rows)) (theArrivals n rows)
 
 -- The answer to a well-formed table: 7 and 8 for the room lent, then 9 for a late row, else acceptance.
 unfoldable pub answerToRows : ℕ → List Row → (plan-lent arrivals-lent : ℕ) → Answer
 answerToRows n rows plan-lent arrivals-lent =
     cond (ltb plan-lent (planRoom n rows)) (Refused (refuse 7 0 0))
     (cond (ltb arrivals-lent (length rows)) (Refused (refuse 8 0 0))
-    (cond (eqb (ending n rows .row) 0) (Accepted (theSummary n rows)) (Refused (refuse 9 (ending n rows .row) (ending n rows .slot .0)))))
+    (cond (eqb (ending n rows .row) 0) (Accepted (theSummary n rows))
+    (Refused (refuse 9 (ending n rows .row) (ending n rows .slot .0)))))
 
 -- The answer: what judging the table came to, where it is no good table, and else what follows.
 unfoldable pub afterVerdict : Verdict → Answer → Answer
@@ -79,19 +82,22 @@ unfoldable pub numberOf : Answer → ℕ
 numberOf (Accepted s) = 0
 numberOf (Refused r) = r .number
 
--- What an area holds after an answer: the list given where the table is accepted, as many zeros where it is late, each with what stood behind it; else what it held before.
+-- What an area holds after an answer: the list given where the table is accepted, as many zeros where it is late, each
+-- with what stood behind it; else what it held before.
 unfoldable pub areaAfter : Answer → (given before : List ℕ) → List ℕ
 areaAfter (Accepted s) given before = given ++ drop (length given) before
 areaAfter (Refused r) given before =
     cond (eqb (r .number) 9) (replicate (length given) 0 ++ drop (length given) before) before
 
 -- The full outcome of planning: the answer, and every entry of both lent areas.
-pub record Planned (n : ℕ) (rows : List Row) (plan arrivals : List ℕ) (answer : Answer) (plan′ arrivals′ : List ℕ) : Type 0 where
+pub record Planned (n : ℕ) (rows : List Row) (plan arrivals : List ℕ) (answer : Answer)
+    (plan′ arrivals′ : List ℕ) : Type 0 where
   pub answers : answer ≡ theAnswer n rows (length plan) (length arrivals)
   pub fills-plan : plan′ ≡ areaAfter answer (thePlan n rows) plan
   pub fills-arrivals : arrivals′ ≡ areaAfter answer (theArrivals n rows) arrivals
 
--- A legal schedule, by any rule, of N entries for each slot below the largest due slot, that brings every row of the table there in time.
+-- A legal schedule, by any rule, of N entries for each slot below the largest due slot, that brings every row of the
+-- table there in time.
 abbrev pub ScheduleOf : ℕ → List Row → List ℕ → Type 0
 ScheduleOf n rows = Schedule (trafficOf n rows) (distances n rows) (lastDue rows)
 

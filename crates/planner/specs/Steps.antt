@@ -1,4 +1,5 @@
--- What single steps of the code ask and give. The planner's promise speaks of Planner.antt alone; nothing here has to be believed.
+-- What single steps of the code ask and give. The planner's promise speaks of Planner.antt alone; nothing here has to
+-- be believed.
 use Prim.Native.Nat.{ℕ, _*_, _≤_}
 use mathlib.Core.Path.{_≡_}
 use mathlib.Core.Bool.{cond}
@@ -26,14 +27,18 @@ pub record Runnable (T : Traffic) (left plan arrivals : List ℕ) : Type 0 where
 unfoldable pub answerToRun : Traffic → List ℕ → Stop → Answer
 answerToRun T start stop =
     cond (eqb (stop .row) 0)
-    (Accepted (summaryOf (length start) (total start) (T .nodes * largest (arrivalsOf T start (largest (T .due)))) (arrivalsOf T start (largest (T .due)))))
+    (Accepted (summaryOf (length start) (total start) (T .nodes * largest (arrivalsOf T start (largest (T .due))))
+    (arrivalsOf T start (largest (T .due)))))
     (Refused (refuse 9 (stop .row) (stop .slot .0)))
 
 -- What planning a run in areas of just its size gives.
-pub record RunPlanned (T : Traffic) (start : List ℕ) (room : ℕ) (answer : Answer) (plan′ arrivals′ : List ℕ) : Type 0 where
+pub record RunPlanned (T : Traffic) (start : List ℕ) (room : ℕ) (answer : Answer)
+    (plan′ arrivals′ : List ℕ) : Type 0 where
   pub answers : answer ≡ answerToRun T start (stopOf T start (largest (T .due)))
-  pub carries : plan′ ≡ cond (eqb (stopOf T start (largest (T .due)) .row) 0) (planOf T start (largest (T .due))) (replicate room 0)
-  pub arrives : arrivals′ ≡ cond (eqb (stopOf T start (largest (T .due)) .row) 0) (arrivalsOf T start (largest (T .due))) (replicate (length start) 0)
+  pub carries : plan′ ≡ cond (eqb (stopOf T start (largest (T .due)) .row) 0) (planOf T start (largest (T .due)))
+      (replicate room 0)
+  pub arrives : arrivals′ ≡ cond (eqb (stopOf T start (largest (T .due)) .row) 0)
+      (arrivalsOf T start (largest (T .due))) (replicate (length start) 0)
 
 -- Three columns hold a table for a ring of 2 to 32 nodes.
 pub record Tabled (n : ℕ) (src dst due : List ℕ) : Type 0 where
@@ -42,7 +47,8 @@ pub record Tabled (n : ℕ) (src dst due : List ℕ) : Type 0 where
   pub same : SameRows src dst due
 
 -- What planning a well-formed table gives.
-pub record GoodPlanned (n : ℕ) (rows : List Row) (plan arrivals : List ℕ) (answer : Answer) (plan′ arrivals′ : List ℕ) : Type 0 where
+pub record GoodPlanned (n : ℕ) (rows : List Row) (plan arrivals : List ℕ) (answer : Answer)
+    (plan′ arrivals′ : List ℕ) : Type 0 where
   pub answers : answer ≡ answerToRows n rows (length plan) (length arrivals)
   pub fills-plan : plan′ ≡ areaAfter answer (thePlan n rows) plan
   pub fills-arrivals : arrivals′ ≡ areaAfter answer (theArrivals n rows) arrivals

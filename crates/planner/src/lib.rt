@@ -71,7 +71,8 @@ fn plan_run(
     arrivals: &mut [u16],
 ) -> Answer
     requires { ⌜ Runnable (traffic nodes (now dst) (now due)) (now left) (now plan) (now arrivals) ⌝ }
-    ensures { λ r. ⌜ RunPlanned (traffic nodes (now (dst .entry)) (now (due .entry))) (now (left .entry)) (length (now (plan .entry))) r (now (plan .exit)) (now (arrivals .exit)) ⌝ }
+    ensures { λ r. ⌜ RunPlanned (traffic nodes (now (dst .entry)) (now (due .entry))) (now (left .entry))
+        (length (now (plan .entry))) r (now (plan .exit)) (now (arrivals .exit)) ⌝ }
 {
     let sends = sum(left);
     let stop = run(nodes, dst, due, left, plan, arrivals);
@@ -108,8 +109,10 @@ fn plan_good(
     plan: &mut [u16],
     arrivals: &mut [u16],
 ) -> Answer
-    requires { ⌜ Tabled nodes (now src) (now dst) (now due) × (judgeRows nodes (rowsOf (now src) (now dst) (now due)) 0 ≡ Verdict.Good) ⌝ }
-    ensures { λ r. ⌜ GoodPlanned nodes (rowsOf (now (src .entry)) (now (dst .entry)) (now (due .entry))) (now (plan .entry)) (now (arrivals .entry)) r (now (plan .exit)) (now (arrivals .exit)) ⌝ }
+    requires { ⌜ Tabled nodes (now src) (now dst) (now due)
+        × (judgeRows nodes (rowsOf (now src) (now dst) (now due)) 0 ≡ Verdict.Good) ⌝ }
+    ensures { λ r. ⌜ GoodPlanned nodes (rowsOf (now (src .entry)) (now (dst .entry)) (now (due .entry)))
+        (now (plan .entry)) (now (arrivals .entry)) r (now (plan .exit)) (now (arrivals .exit)) ⌝ }
 {
     let rows = src.len();
     let need = nodes as usize * greatest(due) as usize;
@@ -141,7 +144,8 @@ fn plan_rows(
     arrivals: &mut [u16],
 ) -> Answer
     requires { ⌜ Tabled nodes (now src) (now dst) (now due) ⌝ }
-    ensures { λ r. ⌜ Planned nodes (rowsOf (now (src .entry)) (now (dst .entry)) (now (due .entry))) (now (plan .entry)) (now (arrivals .entry)) r (now (plan .exit)) (now (arrivals .exit)) ⌝ }
+    ensures { λ r. ⌜ Planned nodes (rowsOf (now (src .entry)) (now (dst .entry)) (now (due .entry))) (now (plan .entry))
+        (now (arrivals .entry)) r (now (plan .exit)) (now (arrivals .exit)) ⌝ }
 {
     let verdict = judge_rows(nodes, src, dst, due);
     match verdict {
@@ -158,7 +162,8 @@ pub fn plan_columns(
     plan: &mut [u16],
     arrivals: &mut [u16],
 ) -> Answer
-    ensures { λ r. ⌜ Planned nodes (listed rows columns) (now (plan .entry)) (now (arrivals .entry)) r (now (plan .exit)) (now (arrivals .exit)) ⌝ }
+    ensures { λ r. ⌜ Planned nodes (listed rows columns) (now (plan .entry)) (now (arrivals .entry)) r
+        (now (plan .exit)) (now (arrivals .exit)) ⌝ }
 {
     if nodes < 2 {
         return refusal(1);
@@ -184,7 +189,8 @@ pub fn plan_columns(
 
 // Plans a table: the lent plan says which row each link carries in each slot, the lent arrivals when each row is there.
 pub fn plan(nodes: u16, rows: &[Row], plan: &mut [u16], arrivals: &mut [u16]) -> Answer
-    ensures { λ r. ⌜ Planned nodes (now (rows .entry)) (now (plan .entry)) (now (arrivals .entry)) r (now (plan .exit)) (now (arrivals .exit)) ⌝ }
+    ensures { λ r. ⌜ Planned nodes (now (rows .entry)) (now (plan .entry)) (now (arrivals .entry)) r (now (plan .exit))
+        (now (arrivals .exit)) ⌝ }
 {
     let count = rows.len();
     let columns = load(rows);

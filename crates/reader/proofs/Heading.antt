@@ -11,7 +11,8 @@ use Rattle.table.specs.Steps.{columns}
 use Rattle.table.specs.declared.Refusal.{Refusal}
 use Rattle.text.specs.declared.Reading.{Reading}
 use Rattle.text.specs.declared.Reading.the-variants.{Read, Refused}
-use Rattle.text.specs.Text.{line-feed, nodes-key, rows-key, lineGood, nodesIn, rowsIn, bodyOf, readingOfRows, readingOfBody, readingOf, rowsRead}
+use Rattle.text.specs.Text.{line-feed, nodes-key, rows-key, lineGood, nodesIn, rowsIn, bodyOf, readingOfRows}
+use Rattle.text.specs.Text.{readingOfBody, readingOf, rowsRead}
 use Rattle.text.proofs.RoundTrip.{refused-not}
 use Rattle.reader.specs.Steps.{RowsTaken, TextRead}
 use Rattle.lines.proofs.Seen.{Seen}
@@ -19,7 +20,8 @@ use Rattle.lines.proofs.Seen.{Seen}
 -- a reading that is refused
 pub refused-read : (text : List ℕ) (lent : ℕ) (src dst due : List ℕ) (answer : Reading) (r : Refusal)
     → answer ≡ Refused r → Refused r ≡ readingOf text lent → TextRead text lent answer src dst due
-refused-read text lent src dst due answer r e h = record { judged = e ∙ h; rows = λ g f. absurd (refused-not r g (sym e ∙ f)) }
+refused-read text lent src dst due answer r e h =
+    record { judged = e ∙ h; rows = λ g f. absurd (refused-not r g (sym e ∙ f)) }
 
 module _ (text : List ℕ) (lent : ℕ) where
   pub first-wrong : lineGood nodes-key text ≡ false → Refused (refuse 20 1 0) ≡ readingOf text lent
@@ -57,7 +59,8 @@ module _ (text : List ℕ) (lent : ℕ) where
         unfolding readingOfBody
         too-short h = sym (headed ∙ rw (le-ltb 512 rows few, lt-ltb lent rows h))
 
-        module _ (room : rows ≤ lent) (line : ℕ) (src dst due : List ℕ) (taken : RowsTaken rows (drop third text) line src dst due) where
+        module _ (room : rows ≤ lent) (line : ℕ) (src dst due : List ℕ)
+            (taken : RowsTaken rows (drop third text) line src dst due) where
           bodied : readingOf text lent ≡ readingOfRows nodes rows (drop third text)
           unfolding readingOfBody
           bodied = headed ∙ rw (le-ltb 512 rows few, le-ltb lent rows room)
@@ -69,5 +72,6 @@ module _ (text : List ℕ) (lent : ℕ) where
           pub all-read : line ≡ 0 → TextRead text lent (Read (record { nodes = nodes; rows = rows })) src dst due
           unfolding readingOfRows rowsRead
           all-read e =
-              let so : readingOf text lent ≡ Read (record { nodes = nodes; rows = rows }) = bodied ∙ rw (← taken .judged, e) in
+              let so : readingOf text lent ≡ Read (record { nodes = nodes; rows = rows }) = bodied
+              ∙ rw (← taken .judged, e) in
               record { judged = sym so; rows = λ g f. taken .rows e ∙ ap columns (rw (so, body-is)) }

@@ -1,7 +1,8 @@
 -- From plain numbers to lent rows: what `parse` says of columns is what `read` says of the rows.
 --     filled-fits      a reading fills at most as many rows as are lent, and at most 512
 --     rows-fit         so a count that is the number of rows read can be stored
---     rows-stored      the rows that were read, stored at the front of the lent ones, are what a reading promises of them
+--     rows-stored      the rows that were read, stored at the front of the lent ones, are what a reading promises of
+--     them
 --     parsed-fits, parsed-taken      both, of what `parse` found
 -- Assumes nothing.
 use mathlib.Core.Path.{_≡_, refl, _∙_, sym, subst}

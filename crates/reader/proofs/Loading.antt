@@ -46,8 +46,11 @@ stored : (f : Row → ℕ) (col : List ℕ) (i : ℕ) (text : List ℕ) (v : ℕ
 stored f col i text v h e so =
     let one = ap (λ (k : ℕ). rowsAt k text) (add-one i) ∙ rowsAt-suc i text in
     let all : map f (rowsAt i text) ++ (v ∷ []) ≡ map f (rowsAt (i + 1) text) =
-    ap (λ (x : ℕ). map f (rowsAt i text) ++ (x ∷ [])) e ∙ sym (ap (map f) one ∙ map-last f (rowsAt i text) (rowAt (pastRows i text))) in
-    ap (λ (l : List ℕ). set l i v) so ∙ column-more (map f (rowsAt i text)) i v (length-map (rowsAt i text) f ∙ rowsAt-length i text) h ∙ ap column all
+    ap (λ (x : ℕ). map f (rowsAt i text) ++ (x ∷ [])) e
+    ∙ sym (ap (map f) one ∙ map-last f (rowsAt i text) (rowAt (pastRows i text))) in
+    ap (λ (l : List ℕ). set l i v) so
+    ∙ column-more (map f (rowsAt i text)) i v (length-map (rowsAt i text) f ∙ rowsAt-length i text) h
+    ∙ ap column all
 
 pub record Loaded (text : List ℕ) (from rows : ℕ) (src dst due : List ℕ) (at line i : ℕ) : Type 0 where
   pub inside : at ≤ length text
@@ -78,7 +81,8 @@ none-loaded text from rows src dst due h a b d =
       due-slots = d ∙ column-none;
     }
 
-module _ {text : List ℕ} {from rows : ℕ} {src dst due : List ℕ} {at line i : ℕ} (k : Loaded text from rows src dst due at line i) where
+module _ {text : List ℕ} {from rows : ℕ} {src dst due : List ℕ} {at line i : ℕ}
+    (k : Loaded text from rows src dst due at line i) where
   module _ (more : i < rows) where
     abbrev keys-behind : List (List ℕ)
     keys-behind = rowsKeys (rows - (i + 1))
@@ -88,7 +92,8 @@ module _ {text : List ℕ} {from rows : ℕ} {src dst due : List ℕ} {at line i
     keys-left = let left : rows - i ≡ suc (rows - (i + 1)) = omega arith in rw left
 
     pub more-loaded : (r : Row) (n : ℕ) → rows ≤ 512 → Passed text at r n
-        → Loaded text from rows (set src i (r .src)) (set dst i (r .dst)) (set due i (r .due)) n (line + length row-keys) (i + 1)
+        → Loaded text from rows (set src i (r .src)) (set dst i (r .dst)) (set due i (r .due)) n
+        (line + length row-keys) (i + 1)
     unfolding sources destinations dues
     more-loaded r n few p =
         let here : r ≡ rowAt (pastRows i (drop from text)) = p .row ∙ ap rowAt (k .rest) in
@@ -97,17 +102,26 @@ module _ {text : List ℕ} {from rows : ℕ} {src dst due : List ℕ} {at line i
           few = omega arith;
           some = omega (arith, k .some);
           counted = omega (arith, k .counted, row-lines .1);
-          rest = p .rest ∙ ap (behindLines row-keys) (k .rest) ∙ sym (pastRows-more i (drop from text)) ∙ rw (← add-one i);
-          judged = k .judged ∙ rw keys-left (right-on row-keys keys-behind (drop at text) line (p .right) ∙ rw (p .rest));
-          srcs = stored (λ q. q .src) src i (drop from text) (r .src) (omega arith) (ap (λ (q : Row). q .src) here) (k .srcs);
-          dsts = stored (λ q. q .dst) dst i (drop from text) (r .dst) (omega arith) (ap (λ (q : Row). q .dst) here) (k .dsts);
-          due-slots = stored (λ q. q .due) due i (drop from text) (r .due) (omega arith) (ap (λ (q : Row). q .due) here) (k .due-slots);
+          rest =
+              p .rest ∙ ap (behindLines row-keys) (k .rest) ∙ sym (pastRows-more i (drop from text)) ∙ rw (← add-one i);
+          judged =
+              k .judged ∙ rw keys-left (right-on row-keys keys-behind (drop at text) line (p .right) ∙ rw (p .rest));
+          srcs =
+              stored (λ q. q .src) src i (drop from text) (r .src) (omega arith) (ap (λ (q : Row). q .src) here)
+              (k .srcs);
+          dsts =
+              stored (λ q. q .dst) dst i (drop from text) (r .dst) (omega arith) (ap (λ (q : Row). q .dst) here)
+              (k .dsts);
+          due-slots =
+              stored (λ q. q .due) due i (drop from text) (r .due) (omega arith) (ap (λ (q : Row). q .due) here)
+              (k .due-slots);
         }
 
     pub stopped-at : (p : ℕ) → (p < length row-keys) × (rightLines row-keys (drop at text) ≡ p)
         → RowsTaken rows (drop from text) (line + p) src dst due
     stopped-at p b =
-        let stop = broken-on row-keys keys-behind (drop at text) line (omega (arith, b .0, b .1)) ∙ ap (λ (n : ℕ). line + n) (b .1) in
+        let stop = broken-on row-keys keys-behind (drop at text) line (omega (arith, b .0, b .1))
+        ∙ ap (λ (n : ℕ). line + n) (b .1) in
         record { judged = sym (k .judged ∙ rw keys-left stop); rows = λ e. absurd (omega (arith, k .some)) }
 
   module _ (done : rows ≤ i) where
@@ -118,10 +132,18 @@ module _ {text : List ℕ} {from rows : ℕ} {src dst due : List ℕ} {at line i
     unfolding rowsKeys wrongLine
     left-over h =
         let some : (length (drop at text) ≡ 0) → ⊥ = λ e. omega (arith, length-drop at text) in
-        record { judged = sym (k .judged ∙ rw (none-left, ne-eqb (length (drop at text)) 0 some)); rows = λ e. absurd (omega (arith, k .some)) }
+        record {
+          judged = sym (k .judged ∙ rw (none-left, ne-eqb (length (drop at text)) 0 some));
+          rows =
+              λ e. absurd (omega (arith, k .some));
+        }
 
     pub all-loaded : length text ≤ at → RowsTaken rows (drop from text) 0 src dst due
     unfolding rowsKeys wrongLine columns
     all-loaded h =
         let all : i ≡ rows = omega (arith, k .few) in
-        record { judged = sym (k .judged ∙ rw (none-left, drop-of-length-le text h)); rows = λ e. rw (k .srcs, k .dsts, k .due-slots, all) }
+        record {
+          judged = sym (k .judged ∙ rw (none-left, drop-of-length-le text h));
+          rows =
+              λ e. rw (k .srcs, k .dsts, k .due-slots, all);
+        }

@@ -37,25 +37,37 @@ no-rows : (rows : List Row) → length rows ≡ 0 → [] ≡ rows
 no-rows [] e = refl
 no-rows (r ∷ rs) e = absurd (omega arith)
 
-module _ {text : List ℕ} {lent : ℕ} {answer : Reading} {src dst due : List ℕ} (t : TextRead text lent answer src dst due) (n : ℕ) (count : n ≡ filled answer) where
+module _ {text : List ℕ} {lent : ℕ} {answer : Reading} {src dst due : List ℕ}
+    (t : TextRead text lent answer src dst due) (n : ℕ) (count : n ≡ filled answer) where
   counted-is : n ≡ length (rowsRead text lent)
   counted-is = count ∙ ap filled (t .judged) ∙ sym (filled-rows text lent)
 
-  parsed : (cols : Columns) → cols ≡ columns (rowsRead text lent) → TextParsed text lent (record { reading = answer; rows = n; columns = cols })
+  parsed : (cols : Columns) → cols ≡ columns (rowsRead text lent)
+      → TextParsed text lent (record { reading = answer; rows = n; columns = cols })
   parsed cols e =
-      record { judged = t .judged; counted = counted-is; held = e; rows = rw (e, counted-is) (listed-columns (rowsRead text lent) (few-rows text lent)) }
+      record {
+        judged = t .judged;
+        counted = counted-is;
+        held = e;
+        rows =
+            rw (e, counted-is) (listed-columns (rowsRead text lent) (few-rows text lent));
+      }
 
-  pub none-parsed : (cols : Columns) → n ≡ 0 → cols ≡ columns [] → TextParsed text lent (record { reading = answer; rows = n; columns = cols })
+  pub none-parsed : (cols : Columns) → n ≡ 0 → cols ≡ columns []
+      → TextParsed text lent (record { reading = answer; rows = n; columns = cols })
   none-parsed cols z e = parsed cols (e ∙ ap columns (no-rows (rowsRead text lent) (sym counted-is ∙ z)))
 
-  pub some-parsed : (n ≡ 0 → ⊥) → TextParsed text lent (record { reading = answer; rows = n; columns = held src dst due })
+  pub some-parsed : (n ≡ 0 → ⊥) → TextParsed text lent
+      (record { reading = answer; rows = n; columns = held src dst due })
   some-parsed d = go answer refl
     where
-      go : (a : Reading) → answer ≡ a → TextParsed text lent (record { reading = answer; rows = n; columns = held src dst due })
+      go : (a : Reading) → answer ≡ a
+          → TextParsed text lent (record { reading = answer; rows = n; columns = held src dst due })
       go (Read h) e = parsed (held src dst due) (t .rows h e)
       go (Refused r) e = absurd (d (count ∙ ap filled e))
 
-pub no-columns-are : (src dst due : List ℕ) → src ≡ replicate {A = ℕ} 512 0 → dst ≡ replicate {A = ℕ} 512 0 → due ≡ replicate {A = ℕ} 512 0 → held src dst due ≡ columns []
+pub no-columns-are : (src dst due : List ℕ) → src ≡ replicate {A = ℕ} 512 0 → dst ≡ replicate {A = ℕ} 512 0
+    → due ≡ replicate {A = ℕ} 512 0 → held src dst due ≡ columns []
 unfolding columns sources destinations dues
 no-columns-are src dst due a b d =
     rw (a ∙ column-none, b ∙ column-none, d ∙ column-none)

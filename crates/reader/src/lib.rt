@@ -31,8 +31,10 @@ fn read_rows(
     dst: &mut [u16; 512],
     due: &mut [u16; 512],
 ) -> u16
-    requires { ⌜ (from ≤ length (now text)) × (rows ≤ 512) × (now src ≡ replicate {A = ℕ} 512 0) × (now dst ≡ replicate {A = ℕ} 512 0) × (now due ≡ replicate {A = ℕ} 512 0) ⌝ }
-    ensures { λ r. ⌜ RowsTaken rows (drop from (now (text .entry))) r (now (src .exit)) (now (dst .exit)) (now (due .exit)) ⌝ }
+    requires { ⌜ (from ≤ length (now text)) × (rows ≤ 512) × (now src ≡ replicate {A = ℕ} 512 0)
+        × (now dst ≡ replicate {A = ℕ} 512 0) × (now due ≡ replicate {A = ℕ} 512 0) ⌝ }
+    ensures { λ r. ⌜ RowsTaken rows (drop from (now (text .entry))) r (now (src .exit)) (now (dst .exit))
+        (now (due .exit)) ⌝ }
 {
     let mut at = from;
     let mut line = 3u16;
@@ -75,7 +77,8 @@ fn read_columns(
     dst: &mut [u16; 512],
     due: &mut [u16; 512],
 ) -> Reading
-    requires { ⌜ (now src ≡ replicate {A = ℕ} 512 0) × (now dst ≡ replicate {A = ℕ} 512 0) × (now due ≡ replicate {A = ℕ} 512 0) ⌝ }
+    requires { ⌜ (now src ≡ replicate {A = ℕ} 512 0) × (now dst ≡ replicate {A = ℕ} 512 0)
+        × (now due ≡ replicate {A = ℕ} 512 0) ⌝ }
     ensures { λ r. ⌜ TextRead (now (text .entry)) lent r (now (src .exit)) (now (dst .exit)) (now (due .exit)) ⌝ }
 {
     let Item::Good(nodes, second) = line_at(text, 0, b"nodes=") else {

@@ -21,7 +21,8 @@ use Rattle.slack.proofs.Rule.{plan-length}
 use Rattle.planner.specs.declared.Answer.{Answer}
 use Rattle.planner.specs.declared.Summary.{Summary}
 use Rattle.planner.specs.declared.Answer.the-variants.{Accepted, Refused}
-use Rattle.planner.specs.Planner.{trafficOf, thePlan, theArrivals, answerToRows, afterVerdict, theAnswer, areaAfter, Planned}
+use Rattle.planner.specs.Planner.{trafficOf, thePlan, theArrivals, answerToRows, afterVerdict, theAnswer, areaAfter}
+use Rattle.planner.specs.Planner.{Planned}
 use Rattle.planner.proofs.Answering.{arrivals-long}
 use Rattle.planner.proofs.Good.{soon}
 use Rattle.planner.proofs.Judged.{Sound, sound, listed-fronts, fronts-tabled}
@@ -37,7 +38,8 @@ module _ (n : ℕ) (rows : List Row) (s : Summary) (is : theAnswer n rows 32768 
   unfolding theAnswer afterVerdict
   well = go (judge n rows) refl is
     where
-      go : (v : Verdict) → judge n rows ≡ v → afterVerdict v (answerToRows n rows 32768 512) ≡ Accepted s → judge n rows ≡ verdict.Good
+      go : (v : Verdict) → judge n rows ≡ v → afterVerdict v (answerToRows n rows 32768 512) ≡ Accepted s
+          → judge n rows ≡ verdict.Good
       go verdict.Good e f = e
       go (verdict.Refused r) e f = let never : _≡_ {A = ℕ} 0 1 = cc in absurd (omega arith)
 
@@ -61,10 +63,12 @@ pub table-most : (n : ℕ) (rows : List Row) → length (tableText n rows) ≤ 2
 unfolding tableText answerText
 table-most n rows = go (theAnswer n rows 32768 512) refl
   where
-    go : (r : Answer) → theAnswer n rows 32768 512 ≡ r → length (answerText r (theArrivals n rows) n (lastDue rows) (thePlan n rows)) ≤ 212992
+    go : (r : Answer) → theAnswer n rows 32768 512 ≡ r
+        → length (answerText r (theArrivals n rows) n (lastDue rows) (thePlan n rows)) ≤ 212992
     go (Accepted s) e =
         let k = its-size n rows s e in
-        accepted-most (s .last .0) (theArrivals n rows) n (lastDue rows) (thePlan n rows) (omega (arith, arrivals-each n rows s e, k .few)) (k .most) (due-soon n rows s e)
+        accepted-most (s .last .0) (theArrivals n rows) n (lastDue rows) (thePlan n rows)
+        (omega (arith, arrivals-each n rows s e, k .few)) (k .most) (due-soon n rows s e)
     go (Refused r) e = omega (arith, verdict-most r)
 
 -- As `respond_table` finds it: the rows by columns, the areas that it lends, and what they hold after planning.
@@ -78,7 +82,8 @@ pub record Answered (n count : ℕ) (c : Columns) (r : Answer) (plan′ arrivals
   pub dst-all : length (c .dst) ≡ 512
   pub due-all : length (c .due) ≡ 512
 
-module _ {n count : ℕ} {c : Columns} {r : Answer} {plan′ arrivals′ : List ℕ} (k : Answered n count c r plan′ arrivals′) where
+module _ {n count : ℕ} {c : Columns} {r : Answer} {plan′ arrivals′ : List ℕ}
+    (k : Answered n count c r plan′ arrivals′) where
   abbrev table : List Row
   table = listed count c
 
@@ -108,7 +113,9 @@ module _ {n count : ℕ} {c : Columns} {r : Answer} {plan′ arrivals′ : List 
     arrivals-there = k .out .fills-arrivals ∙ rw e
 
     the-arrivals : take count arrivals′ ≡ theArrivals n table
-    the-arrivals = ap (take count) arrivals-there ∙ take-at (theArrivals n table) _ count (arrivals-each n table s is ∙ length-listed count c)
+    the-arrivals =
+        ap (take count) arrivals-there
+        ∙ take-at (theArrivals n table) _ count (arrivals-each n table s is ∙ length-listed count c)
 
     pub arrivals-fit : count ≤ length arrivals′
     arrivals-fit =
@@ -120,8 +127,10 @@ module _ {n count : ℕ} {c : Columns} {r : Answer} {plan′ arrivals′ : List 
 
     its-due : dues table ≡ take count (c .due)
     its-due =
-        let same = fronts-tabled n count c (size .least) (size .most) few-rows (k .src-all) (k .dst-all) (k .due-all) .same in
-        ap dues (listed-fronts count c (omega (arith, few-rows, k .src-all))) ∙ its-dues (take count (c .src)) (take count (c .dst)) (take count (c .due)) same
+        let same = fronts-tabled n count c (size .least) (size .most) few-rows (k .src-all) (k .dst-all)
+        (k .due-all) .same in
+        ap dues (listed-fronts count c (omega (arith, few-rows, k .src-all)))
+        ∙ its-dues (take count (c .src)) (take count (c .dst)) (take count (c .due)) same
 
     pub due-fits : count ≤ length (c .due)
     due-fits = omega (arith, few-rows, k .due-all)
@@ -147,16 +156,26 @@ module _ {n count : ℕ} {c : Columns} {r : Answer} {plan′ arrivals′ : List 
       plan-front = sym (length-take-le (n * slots) plan′ plan-fits)
 
       the-plan : take (n * slots) plan′ ≡ thePlan n table
-      the-plan = ap (take (n * slots)) plan-there ∙ take-at (thePlan n table) _ (n * slots) (plan-long n table s is ∙ rw last-is)
+      the-plan =
+          ap (take (n * slots)) plan-there
+          ∙ take-at (thePlan n table) _ (n * slots) (plan-long n table s is ∙ rw last-is)
 
       pub slotted : Slotted n slots (take (n * slots) plan′)
-      slotted = record { some = omega (arith, size .least); most = size .most; soon = rw last-is (due-soon n table s is); room = sym plan-front }
+      slotted = record {
+        some = omega (arith, size .least);
+        most = size .most;
+        soon =
+            rw last-is (due-soon n table s is);
+        room = sym plan-front;
+      }
 
-      pub accepted-is : tableText n table ≡ acceptedText (s .last .0) (take count arrivals′) n slots (take (n * slots) plan′)
+      pub accepted-is : tableText n table ≡ acceptedText (s .last .0) (take count arrivals′) n slots
+          (take (n * slots) plan′)
       unfolding tableText answerText
       accepted-is = rw (is, the-arrivals, the-plan, last-is)
 
-      pub accepted-fits : (area : List ℕ) → 212992 ≤ length area → Room area 0 (acceptedText (s .last .0) (take count arrivals′) n slots (take (n * slots) plan′))
+      pub accepted-fits : (area : List ℕ) → 212992 ≤ length area
+          → Room area 0 (acceptedText (s .last .0) (take count arrivals′) n slots (take (n * slots) plan′))
       accepted-fits area h = omega (arith, table-most n table, ap length accepted-is)
 
 pub verdict-fits : (area : List ℕ) (r : Refusal) → 212992 ≤ length area → Room area 0 (verdictLines r)

@@ -1,4 +1,5 @@
--- The definitions at work: case B of document 01 as input, and its output byte by byte; and a text and a table that are refused.
+-- The definitions at work: case B of document 01 as input, and its output byte by byte; and a text and a table that are
+-- refused.
 -- Assumes nothing.
 use mathlib.Core.Path.{_≡_, refl}
 use mathlib.Core.List.{List, [], _∷_, map}
@@ -8,11 +9,16 @@ use Rattle.lists.specs.Lists.{total, largest}
 use Rattle.ring.specs.Ring.{distance, standing}
 use Rattle.table.specs.Table.{rowRefusal, judgeRows, judge, destinations, dues, distances, lastDue}
 use Rattle.table.specs.Steps.{sources}
-use Rattle.slack.specs.Slack.{underWay, place, slackOf, slack, isLate, lateFrom, lateRow, better, pick, slotOf, moved, stateAt, planOf, deliveredFrom, arrivalsOf, anyUnderWay, stopFrom, stopOf}
-use Rattle.planner.specs.Planner.{ending, thePlan, theArrivals, quotient, summaryOf, theSummary, answerToRows, afterVerdict, theAnswer}
-use Rattle.text.specs.Text.{width, lastDigits, numeral, line, row-keys, starts, digitsAt, extended, itemValue, itemGood, itemRest, valuesAt, behindLines, wrongLine, rowsKeys, rowAt, rowsAt, nodesIn, rowsIn, bodyOf, readingOfRows, readingOfBody, readingOf, rowsRead}
+use Rattle.slack.specs.Slack.{underWay, place, slackOf, slack, isLate, lateFrom, lateRow, better, pick, slotOf, moved}
+use Rattle.slack.specs.Slack.{stateAt, planOf, deliveredFrom, arrivalsOf, anyUnderWay, stopFrom, stopOf}
+use Rattle.planner.specs.Planner.{ending, thePlan, theArrivals, quotient, summaryOf, theSummary, answerToRows}
+use Rattle.planner.specs.Planner.{afterVerdict, theAnswer}
+use Rattle.text.specs.Text.{width, lastDigits, numeral, line, row-keys, starts, digitsAt, extended, itemValue, itemGood}
+use Rattle.text.specs.Text.{itemRest, valuesAt, behindLines, wrongLine, rowsKeys, rowAt, rowsAt, nodesIn, rowsIn}
+use Rattle.text.specs.Text.{bodyOf, readingOfRows, readingOfBody, readingOf, rowsRead}
 use Rattle.text.proofs.Cases.{case-b-text}
-use Rattle.report.specs.Report.{verdictLines, arriveLines, markBefore, parted, sendLine, sendLines, acceptedText, answerText, tableText, readingText, outputOf}
+use Rattle.report.specs.Report.{verdictLines, arriveLines, markBefore, parted, sendLine, sendLines, acceptedText}
+use Rattle.report.specs.Report.{answerText, tableText, readingText, outputOf}
 
 -- What document 01 prints for case B, a line of it in each line here.
 abbrev pub case-b-output : List ℕ
@@ -55,25 +61,30 @@ cases =
     -- answer=9, row=1, slot=0
     record {
       text = case-e-text;
-      output = 97 ∷ 110 ∷ 115 ∷ 119 ∷ 101 ∷ 114 ∷ 61 ∷ 57 ∷ 10 ∷ 114 ∷ 111 ∷ 119 ∷ 61 ∷ 49 ∷ 10 ∷ 115 ∷ 108 ∷ 111 ∷ 116 ∷ 61 ∷ 48 ∷ 10 ∷ [];
+      output =
+          97 ∷ 110 ∷ 115 ∷ 119 ∷ 101 ∷ 114 ∷ 61 ∷ 57 ∷ 10 ∷ 114 ∷ 111 ∷ 119 ∷ 61 ∷ 49 ∷ 10 ∷ 115 ∷ 108 ∷ 111 ∷ 116 ∷ 61 ∷ 48 ∷ 10 ∷ [];
     } ∷
     -- answer=20, row=2, slot=0
     record {
       text = short-text;
-      output = 97 ∷ 110 ∷ 115 ∷ 119 ∷ 101 ∷ 114 ∷ 61 ∷ 50 ∷ 48 ∷ 10 ∷ 114 ∷ 111 ∷ 119 ∷ 61 ∷ 50 ∷ 10 ∷ 115 ∷ 108 ∷ 111 ∷ 116 ∷ 61 ∷ 48 ∷ 10 ∷ [];
+      output =
+          97 ∷ 110 ∷ 115 ∷ 119 ∷ 101 ∷ 114 ∷ 61 ∷ 50 ∷ 48 ∷ 10 ∷ 114 ∷ 111 ∷ 119 ∷ 61 ∷ 50 ∷ 10 ∷ 115 ∷ 108 ∷ 111 ∷ 116 ∷ 61 ∷ 48 ∷ 10 ∷ [];
     } ∷
     -- answer=0, row=0, slot=0, last=0
     record {
       text = empty-table;
-      output = 97 ∷ 110 ∷ 115 ∷ 119 ∷ 101 ∷ 114 ∷ 61 ∷ 48 ∷ 10 ∷ 114 ∷ 111 ∷ 119 ∷ 61 ∷ 48 ∷ 10 ∷ 115 ∷ 108 ∷ 111 ∷ 116 ∷ 61 ∷ 48 ∷ 10 ∷ 108 ∷ 97 ∷ 115 ∷ 116 ∷ 61 ∷ 48 ∷ 10 ∷ [];
+      output =
+          97 ∷ 110 ∷ 115 ∷ 119 ∷ 101 ∷ 114 ∷ 61 ∷ 48 ∷ 10 ∷ 114 ∷ 111 ∷ 119 ∷ 61 ∷ 48 ∷ 10 ∷ 115 ∷ 108 ∷ 111 ∷ 116 ∷ 61 ∷ 48 ∷ 10 ∷ 108 ∷ 97 ∷ 115 ∷ 116 ∷ 61 ∷ 48 ∷ 10 ∷ [];
     } ∷ []
 
 -- Every text comes out so.
 pub printed : map (λ (c : Case). outputOf (c .text)) cases ≡ map (λ (c : Case). c .output) cases
 unfolding total largest distance standing
     rowRefusal judgeRows judge sources destinations dues distances lastDue
-    underWay place slackOf slack isLate lateFrom lateRow better pick slotOf moved stateAt planOf deliveredFrom arrivalsOf anyUnderWay stopFrom stopOf
+    underWay place slackOf slack isLate lateFrom lateRow better pick slotOf moved stateAt planOf deliveredFrom
+    arrivalsOf anyUnderWay stopFrom stopOf
     ending thePlan theArrivals quotient summaryOf theSummary answerToRows afterVerdict theAnswer div ofInt
-    width lastDigits numeral line starts digitsAt extended itemValue itemGood itemRest row-keys valuesAt behindLines wrongLine rowsKeys rowAt rowsAt nodesIn rowsIn bodyOf readingOfRows readingOfBody readingOf rowsRead
+    width lastDigits numeral line starts digitsAt extended itemValue itemGood itemRest row-keys valuesAt behindLines
+    wrongLine rowsKeys rowAt rowsAt nodesIn rowsIn bodyOf readingOfRows readingOfBody readingOf rowsRead
     verdictLines arriveLines markBefore parted sendLine sendLines acceptedText answerText tableText readingText outputOf
 printed = refl

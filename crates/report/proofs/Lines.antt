@@ -22,7 +22,8 @@ none-left xs i h = drop-of-length-le xs h
 next-left : (xs : List ℕ) (i : ℕ) → i < length xs → drop i xs ≡ getD xs i 0 ∷ drop (i + 1) xs
 next-left xs i h = drop-cons xs i 0 h ∙ ap (λ (k : ℕ). getD xs i 0 ∷ drop k xs) (sym (add-one i))
 
-pub next-arrive : (xs : List ℕ) (i : ℕ) → i < length xs → arriveLines (drop i xs) ≡ line arrive-key (getD xs i 0) ++ arriveLines (drop (i + 1) xs)
+pub next-arrive : (xs : List ℕ) (i : ℕ) → i < length xs
+    → arriveLines (drop i xs) ≡ line arrive-key (getD xs i 0) ++ arriveLines (drop (i + 1) xs)
 unfolding arriveLines
 next-arrive xs i h = ap arriveLines (next-left xs i h)
 
@@ -46,10 +47,12 @@ module _ (xs : List ℕ) (n : ℕ) (e : n ≡ length xs) (i mark : ℕ) (m : mar
       ap parted (next-left xs i (omega arith))
       ∙ ap (λ (k : ℕ). item [] (getD xs i 0) k ++ parted (drop (i + 1) xs)) (mark-is xs i n e ∙ sym m)
 
-pub first-entry : (xs : List ℕ) (n : ℕ) → n ≡ length xs → (mark : ℕ) → mark ≡ cond (ltb (0 + 1) n) comma line-feed → 1 ≤ n → sendLine xs ≡ item send-key (getD xs 0 0) mark ++ parted (drop 1 xs)
+pub first-entry : (xs : List ℕ) (n : ℕ) → n ≡ length xs → (mark : ℕ) → mark ≡ cond (ltb (0 + 1) n) comma line-feed
+    → 1 ≤ n → sendLine xs ≡ item send-key (getD xs 0 0) mark ++ parted (drop 1 xs)
 unfolding sendLine
 first-entry xs n e mark m h =
-    ap (λ (l : List ℕ). send-key ++ l) (next-entry xs n e 0 mark m h) ∙ sym (append-assoc send-key (item [] (getD xs 0 0) mark) (parted (drop 1 xs)))
+    ap (λ (l : List ℕ). send-key ++ l) (next-entry xs n e 0 mark m h)
+    ∙ sym (append-assoc send-key (item [] (getD xs 0 0) mark) (parted (drop 1 xs)))
 
 pub no-entry : (xs : List ℕ) (i : ℕ) → length xs ≤ i → parted (drop i xs) ≡ []
 unfolding parted
@@ -69,10 +72,12 @@ module _ {n slots : ℕ} {plan : List ℕ} (k : Slotted n slots plan) (t : ℕ) 
 
   pub slot-some : t < slots → 1 ≤ length entries
   slot-some h =
-      let just : t * n + n - t * n ≤ length (drop (t * n) plan) = omega (arith, slot-ends h, length-drop (t * n) plan) in
+      let just : t * n + n - t * n ≤ length (drop (t * n) plan) =
+      omega (arith, slot-ends h, length-drop (t * n) plan) in
       omega (arith, length-take-le (t * n + n - t * n) (drop (t * n) plan) just, k .some)
 
-  pub next-send : t < slots → sendLines n (slots - t) (drop (t * n) plan) ≡ sendLine entries ++ sendLines n (slots - (t + 1)) (drop ((t + 1) * n) plan)
+  pub next-send : t < slots → sendLines n (slots - t) (drop (t * n) plan) ≡ sendLine entries ++ sendLines n
+      (slots - (t + 1)) (drop ((t + 1) * n) plan)
   unfolding sendLines
   next-send h =
       let left : slots - t ≡ suc (slots - (t + 1)) = omega arith in

@@ -22,12 +22,14 @@ use Rattle.report.proofs.Sizes.{verdict-most}
 use Rattle.report.proofs.Accepting.{table-most}
 
 -- Two outcomes that fit the promise are equal: the count, and every byte of the lent area.
-pub one-report : {text area : List ℕ} {n₁ n₂ : ℕ} {area₁ area₂ : List ℕ} → Reported text area n₁ area₁ → Reported text area n₂ area₂ → (n₁ ≡ n₂) × (area₁ ≡ area₂)
+pub one-report : {text area : List ℕ} {n₁ n₂ : ℕ} {area₁ area₂ : List ℕ} → Reported text area n₁ area₁
+    → Reported text area n₂ area₂ → (n₁ ≡ n₂) × (area₁ ≡ area₂)
 one-report a b = (a .counts ∙ sym (b .counts), a .fills ∙ sym (b .fills))
 
 -- The count lies within the area, as a caller needs that lends the output on.
 pub count-fits : {text area : List ℕ} {n : ℕ} {area′ : List ℕ} → Reported text area n area′ → n ≤ length area′
-count-fits {text} {area} k = omega (arith, k .counts, ap length (k .fills), length-append (outputOf text) (drop (length (outputOf text)) area))
+count-fits {text} {area} k =
+    omega (arith, k .counts, ap length (k .fills), length-append (outputOf text) (drop (length (outputOf text)) area))
 
 pub count-taken : {text area : List ℕ} {n : ℕ} {area′ : List ℕ} → Reported text area n area′ → n ≡ length (take n area′)
 count-taken {n = n} {area′ = area′} k = sym (length-take-le n area′ (count-fits k))
@@ -49,10 +51,12 @@ module _ (text : List ℕ) {area : List ℕ} {next : ℕ} {area′ : List ℕ} w
       record { counts = p .place ∙ rw (none, e); fills = p .so ∙ rw (none, e) }
 
   module _ {reading : Reading} (is : reading ≡ readingOf text 512) where
-    pub not-read : {r : Refusal} → reading ≡ NotRead r → Put area 0 (verdictLines r) next area′ → Reported text area next area′
+    pub not-read : {r : Refusal} → reading ≡ NotRead r → Put area 0 (verdictLines r) next area′
+        → Reported text area next area′
     unfolding outputOf readingText
     not-read {r} e p = reported (verdictLines r) (rw (sym is ∙ e)) p
 
-    pub read : {h : Header} → reading ≡ Read h → {rows : List Row} → rows ≡ rowsRead text 512 → Put area 0 (tableText (h .nodes) rows) next area′ → Reported text area next area′
+    pub read : {h : Header} → reading ≡ Read h → {rows : List Row} → rows ≡ rowsRead text 512
+        → Put area 0 (tableText (h .nodes) rows) next area′ → Reported text area next area′
     unfolding outputOf readingText
     read {h} e {rows} same p = reported (tableText (h .nodes) rows) (rw (sym is ∙ e, same)) p

@@ -27,5 +27,6 @@ front-prints-all input = go (ltb (length input) input-most) refl
     go true e = ap outputOf (take-all input-most input (omega (arith, ltb-true (length input) input-most e)))
     go false e =
         let front = take input-most input in
-        let long : input-most ≤ length front = omega (arith, length-take-le input-most input (ltb-false (length input) input-most e)) in
+        let long : input-most ≤ length front =
+        omega (arith, length-take-le input-most input (ltb-false (length input) input-most e)) in
         sym (rest-changes-nothing front (drop input-most input) long) ∙ ap outputOf (take-append-drop input-most input)

@@ -20,7 +20,9 @@ use Rattle.planner.specs.declared.Answer.the-variants.{Accepted}
 use Rattle.planner.specs.Planner.{thePlan, theArrivals, theAnswer}
 use Rattle.text.specs.Text.{line-feed, numeral, item, line}
 use Rattle.text.proofs.Numeral.{Digits, numeral-digits}
-use Rattle.report.specs.Report.{answer-key, row-key, slot-key, last-key, arrive-key, send-key, verdictLines, arriveLines, markBefore, parted, sendLine, sendLines, acceptedText, answerText, tableText}
+use Rattle.report.specs.Report.{answer-key, row-key, slot-key, last-key, arrive-key, send-key, verdictLines}
+use Rattle.report.specs.Report.{arriveLines, markBefore, parted, sendLine, sendLines, acceptedText, answerText}
+use Rattle.report.specs.Report.{tableText}
 use Rattle.report.proofs.Accepting.{its-size, plan-long, arrivals-each}
 
 -- The line feeds among some bytes.
@@ -43,7 +45,12 @@ digits-none (d ∷ ds) h =
 
 item-feeds : (key : List ℕ) (v mark : ℕ) → feeds (item key v mark) ≡ feeds key + feeds (mark ∷ [])
 item-feeds key v mark =
-    omega (arith, join key (numeral v ++ (mark ∷ [])), join (numeral v) (mark ∷ []), digits-none (numeral v) (numeral-digits v))
+    omega (
+      arith,
+      join key (numeral v ++ (mark ∷ [])),
+      join (numeral v) (mark ∷ []),
+      digits-none (numeral v) (numeral-digits v),
+    )
 
 line-feeds : (key : List ℕ) (v : ℕ) → feeds key ≡ 0 → feeds (line key v) ≡ 1
 unfolding line feeds
@@ -55,12 +62,24 @@ refused-lines r =
     let a = line answer-key (r .number) in
     let b = line row-key (r .row) in
     let d = line slot-key (r .slot .0) in
-    omega (arith, join a (b ++ d), join b d, line-feeds answer-key (r .number) refl, line-feeds row-key (r .row) refl, line-feeds slot-key (r .slot .0) refl)
+    omega (
+      arith,
+      join a (b ++ d),
+      join b d,
+      line-feeds answer-key (r .number) refl,
+      line-feeds row-key (r .row) refl,
+      line-feeds slot-key (r .slot .0) refl,
+    )
 
 arrive-lines : (xs : List ℕ) → feeds (arriveLines xs) ≡ length xs
 unfolding arriveLines feeds
 arrive-lines [] = refl
-arrive-lines (x ∷ xs) = omega (arith, join (line arrive-key x) (arriveLines xs), line-feeds arrive-key x refl, arrive-lines xs)
+arrive-lines (x ∷ xs) = omega (
+  arith,
+  join (line arrive-key x) (arriveLines xs),
+  line-feeds arrive-key x refl,
+  arrive-lines xs,
+)
 
 parted-lines : (v : ℕ) (vs : List ℕ) → feeds (parted (v ∷ vs)) ≡ 1
 unfolding parted markBefore feeds
@@ -83,7 +102,8 @@ sends-lines n (suc slots) plan some room =
     omega (arith, join (sendLine (take n plan)) (sendLines n slots (drop n plan)), one, rest)
 
 -- An accepted table's output: answer, row, slot, last, an arrive line per row, and a send line per slot of the plan.
-pub accepted-lines : (n : ℕ) (rows : List Row) (s : Summary) → theAnswer n rows 32768 512 ≡ Accepted s → feeds (tableText n rows) ≡ 4 + length rows + lastDue rows
+pub accepted-lines : (n : ℕ) (rows : List Row) (s : Summary) → theAnswer n rows 32768 512 ≡ Accepted s
+    → feeds (tableText n rows) ≡ 4 + length rows + lastDue rows
 unfolding tableText answerText acceptedText feeds
 accepted-lines n rows s is =
     let head = verdictLines (refuse 0 0 0) in
@@ -91,4 +111,14 @@ accepted-lines n rows s is =
     let arrives = arriveLines (theArrivals n rows) in
     let sends = sendLines n (lastDue rows) (thePlan n rows) in
     let some : 1 ≤ n = omega (arith, its-size n rows s is .least) in
-    rw is (omega (arith, join head (stamp ++ (arrives ++ sends)), join stamp (arrives ++ sends), join arrives sends, refused-lines (refuse 0 0 0), line-feeds last-key (s .last .0) refl, arrive-lines (theArrivals n rows), arrivals-each n rows s is, sends-lines n (lastDue rows) (thePlan n rows) some (plan-long n rows s is)))
+    rw is (omega (
+      arith,
+      join head (stamp ++ (arrives ++ sends)),
+      join stamp (arrives ++ sends),
+      join arrives sends,
+      refused-lines (refuse 0 0 0),
+      line-feeds last-key (s .last .0) refl,
+      arrive-lines (theArrivals n rows),
+      arrivals-each n rows s is,
+      sends-lines n (lastDue rows) (thePlan n rows) some (plan-long n rows s is),
+    ))

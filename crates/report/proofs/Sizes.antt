@@ -10,11 +10,18 @@ use Rattle.table.specs.declared.Refusal.{Refusal}
 use Rattle.table.specs.Table.{refuse}
 use Rattle.text.proofs.Numeral.{numeral-length, width-most}
 use Rattle.text.proofs.Lengths.{line-most}
-use Rattle.report.specs.Report.{answer-key, row-key, slot-key, last-key, arrive-key, verdictLines, arriveLines, parted, sendLine, sendLines, acceptedText}
+use Rattle.report.specs.Report.{answer-key, row-key, slot-key, last-key, arrive-key, verdictLines, arriveLines}
+use Rattle.report.specs.Report.{parted, sendLine, sendLines, acceptedText}
 
 pub verdict-most : (r : Refusal) → length (verdictLines r) ≤ 34
 unfolding verdictLines
-verdict-most r = simp length-append (omega (arith, line-most answer-key (r .number), line-most row-key (r .row), line-most slot-key (r .slot .0)))
+verdict-most r =
+    simp length-append (omega (
+      arith,
+      line-most answer-key (r .number),
+      line-most row-key (r .row),
+      line-most slot-key (r .slot .0),
+    ))
 
 pub arrives-most : (xs : List ℕ) → length (arriveLines xs) ≤ 13 * length xs
 unfolding arriveLines
@@ -33,9 +40,17 @@ send-most n h plan = simp length-append (omega (arith, parted-most (take n plan)
 pub sends-most : (n slots : ℕ) → n ≤ 32 → (plan : List ℕ) → length (sendLines n slots plan) ≤ 197 * slots
 unfolding sendLines
 sends-most n zero h plan = omega arith
-sends-most n (suc slots) h plan = simp length-append (omega (arith, send-most n h plan, sends-most n slots h (drop n plan)))
+sends-most n (suc slots) h plan =
+    simp length-append (omega (arith, send-most n h plan, sends-most n slots h (drop n plan)))
 
-pub accepted-most : (last : ℕ) (arrivals : List ℕ) (n slots : ℕ) (plan : List ℕ) → length arrivals ≤ 512 → n ≤ 32 → slots ≤ 1024 → length (acceptedText last arrivals n slots plan) ≤ 212992
+pub accepted-most : (last : ℕ) (arrivals : List ℕ) (n slots : ℕ) (plan : List ℕ) → length arrivals ≤ 512 → n ≤ 32
+    → slots ≤ 1024 → length (acceptedText last arrivals n slots plan) ≤ 212992
 unfolding acceptedText
 accepted-most last arrivals n slots plan few most soon =
-    simp length-append (omega (arith, verdict-most (refuse 0 0 0), line-most last-key last, arrives-most arrivals, sends-most n slots most plan))
+    simp length-append (omega (
+      arith,
+      verdict-most (refuse 0 0 0),
+      line-most last-key last,
+      arrives-most arrivals,
+      sends-most n slots most plan,
+    ))

@@ -8,7 +8,8 @@ use Rattle.table.specs.declared.Refusal.{Refusal}
 use Rattle.table.specs.Table.{refuse}
 use Rattle.text.specs.Text.{line}
 use Rattle.text.specs.Steps.{pasted}
-use Rattle.report.specs.Report.{answer-key, row-key, slot-key, last-key, verdictLines, arriveLines, sendLines, acceptedText}
+use Rattle.report.specs.Report.{answer-key, row-key, slot-key, last-key, verdictLines, arriveLines, sendLines}
+use Rattle.report.specs.Report.{acceptedText}
 use Rattle.text.specs.Steps.{Put, Room}
 use Rattle.text.proofs.Putting.{Putting, begun, fits, rest-room, put-on, one-put, put-last}
 
@@ -43,14 +44,16 @@ module _ (area : List ℕ) (r : Refusal) (room : Room area 0 (verdictLines r)) w
       pub slot-fits : Room area₂ p₂ d
       slot-fits = rest-room two
 
-      pub verdict-put : {p₃ : ℕ} {area₃ : List ℕ} → (p₃ ≡ p₂ + length d) × (area₃ ≡ pasted area₂ p₂ d) → Put area 0 (verdictLines r) p₃ area₃
+      pub verdict-put : {p₃ : ℕ} {area₃ : List ℕ} → (p₃ ≡ p₂ + length d) × (area₃ ≡ pasted area₂ p₂ d)
+          → Put area 0 (verdictLines r) p₃ area₃
       verdict-put put₃ = put-last two (one-put put₃)
 
 -- What is printed for an accepted table has room in the area.
 pub record Printing (area : List ℕ) (last : ℕ) (arrivals : List ℕ) (n slots : ℕ) (plan : List ℕ) : Type 0 where
   pub room : Room area 0 (acceptedText last arrivals n slots plan)
 
-module _ {area : List ℕ} {last : ℕ} {arrivals : List ℕ} {n slots : ℕ} {plan : List ℕ} (k : Printing area last arrivals n slots plan) where
+module _ {area : List ℕ} {last : ℕ} {arrivals : List ℕ} {n slots : ℕ} {plan : List ℕ}
+    (k : Printing area last arrivals n slots plan) where
   abbrev head : List ℕ
   head = verdictLines (refuse 0 0 0)
 

@@ -94,9 +94,11 @@ answerText (Refused r) arrivals n slots plan = verdictLines r
 
 -- What is printed for a table: the planner's answer, its arrivals and its plan.
 unfoldable pub tableText : (n : ℕ) → List Row → List ℕ
-tableText n rows = answerText (theAnswer n rows plan-lent arrivals-lent) (theArrivals n rows) n (lastDue rows) (thePlan n rows)
+tableText n rows =
+    answerText (theAnswer n rows plan-lent arrivals-lent) (theArrivals n rows) n (lastDue rows) (thePlan n rows)
 
--- What is printed for a reading and the rows that it gave: a text that was not read gets its three lines, and row is then the line's number.
+-- What is printed for a reading and the rows that it gave: a text that was not read gets its three lines, and row is
+-- then the line's number.
 unfoldable pub readingText : Reading → List Row → List ℕ
 readingText (Read h) rows = tableText (h .nodes) rows
 readingText (NotRead r) rows = verdictLines r
@@ -105,7 +107,8 @@ readingText (NotRead r) rows = verdictLines r
 unfoldable pub outputOf : (text : List ℕ) → List ℕ
 outputOf text = readingText (readingOf text records-lent) (rowsRead text records-lent)
 
--- The full outcome of a report: how many bytes it has, and every byte of the lent area, which holds the output and behind it what was there.
+-- The full outcome of a report: how many bytes it has, and every byte of the lent area, which holds the output and
+-- behind it what was there.
 pub record Reported (text area : List ℕ) (count : ℕ) (area′ : List ℕ) : Type 0 where
   pub counts : count ≡ length (outputOf text)
   pub fills : area′ ≡ outputOf text ++ drop (length (outputOf text)) area

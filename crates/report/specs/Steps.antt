@@ -1,4 +1,5 @@
--- What single steps of the code ask and give. The promise of `respond` speaks of Report.antt alone; nothing here has to be believed.
+-- What single steps of the code ask and give. The promise of `respond` speaks of Report.antt alone; nothing here has to
+-- be believed.
 use Prim.Native.Nat.{ℕ, _*_, _≤_}
 use mathlib.Core.Path.{_≡_}
 use mathlib.Core.List.{List}

@@ -6,7 +6,8 @@ ghost use lib.Dec.{ltb};
 ghost use lib.ListN.{length};
 ghost use Rattle.table.specs.Steps.{listed};
 ghost use Rattle.text.specs.Text.{line-feed};
-ghost use Rattle.report.specs.Report.{comma, output-most, plan-lent, arrivals-lent, verdictLines, arriveLines, sendLine, sendLines, acceptedText, tableText, Reported};
+ghost use Rattle.report.specs.Report.{comma, output-most, plan-lent, arrivals-lent, verdictLines, arriveLines};
+ghost use Rattle.report.specs.Report.{sendLine, sendLines, acceptedText, tableText, Reported};
 ghost use Rattle.text.specs.Steps.{Put, Room};
 ghost use Rattle.report.specs.Steps.{Slotted};
 use lists::greatest;
@@ -93,8 +94,10 @@ fn put_accepted(
     slots: usize,
     plan: &[u16],
 ) -> usize
-    requires { ⌜ Slotted nodes slots (now plan) × Room (now area) 0 (acceptedText last (now arrivals) nodes slots (now plan)) ⌝ }
-    ensures { λ r. ⌜ Put (now (area .entry)) 0 (acceptedText last (now (arrivals .entry)) nodes slots (now (plan .entry))) r (now (area .exit)) ⌝ }
+    requires { ⌜ Slotted nodes slots (now plan)
+        × Room (now area) 0 (acceptedText last (now arrivals) nodes slots (now plan)) ⌝ }
+    ensures { λ r. ⌜ Put (now (area .entry)) 0
+        (acceptedText last (now (arrivals .entry)) nodes slots (now (plan .entry))) r (now (area .exit)) ⌝ }
 {
     let fine = Refusal {
         number: 0,

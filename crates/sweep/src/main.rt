@@ -12,7 +12,8 @@ use ring::Node;
 use table::Row;
 use table::Verdict;
 
-// What the areas hold before a case, so that the entries that it touched can be told: no row's number and no instant is as large.
+// What the areas hold before a case, so that the entries that it touched can be told: no row's number and no instant is
+// as large.
 const UNTOUCHED: u16 = 65535;
 
 // Standard output.
@@ -56,7 +57,8 @@ fn plan_three(
     arrivals: &mut [u16],
 ) -> Answer
     requires { ⌜ count ≤ 3 ⌝ }
-    ensures { λ r. ⌜ Planned nodes (take count rows) (now (area .entry)) (now (arrivals .entry)) r (now (area .exit)) (now (arrivals .exit)) ⌝ }
+    ensures { λ r. ⌜ Planned nodes (take count rows) (now (area .entry)) (now (arrivals .entry)) r (now (area .exit))
+        (now (arrivals .exit)) ⌝ }
 {
     plan(nodes, &rows[..count], area, arrivals)
 }
@@ -190,7 +192,8 @@ fn print_plan(nodes: usize, plan: &[u16])
     }
 }
 
-// Writes what a case came to: the answer, the entries that it touched, and where the table was accepted its figures, arrivals and plan.
+// Writes what a case came to: the answer, the entries that it touched, and where the table was accepted its figures,
+// arrivals and plan.
 fn print_outcome(nodes: usize, answer: Answer, plan: &[u16], arrivals: &[u16])
     requires { ⌜ 0 < nodes ⌝ }
 {

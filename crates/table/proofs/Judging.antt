@@ -29,11 +29,13 @@ pub never-good : (x : Refusal) → Refused x ≡ Good → ⊥
 never-good x e = let z : _≡_ {A = ℕ} 0 1 = cc in omega arith
 
 module _ (n : ℕ) (rows : List Row) (i : ℕ) where
-  pub judge-here : i < length rows → (rowRefusal n (getD rows i none) ≡ 0 → ⊥) → judgeRows n (drop i rows) i ≡ Refused (refuse (rowRefusal n (getD rows i none)) (i + 1) 0)
+  pub judge-here : i < length rows → (rowRefusal n (getD rows i none) ≡ 0 → ⊥)
+      → judgeRows n (drop i rows) i ≡ Refused (refuse (rowRefusal n (getD rows i none)) (i + 1) 0)
   unfolding judgeRows
   judge-here h bad = rw (drop-cons rows i none h, ne-eqb (rowRefusal n (getD rows i none)) 0 bad, add-one)
 
-  pub judge-next : i < length rows → rowRefusal n (getD rows i none) ≡ 0 → judgeRows n (drop i rows) i ≡ judgeRows n (drop (i + 1) rows) (i + 1)
+  pub judge-next : i < length rows → rowRefusal n (getD rows i none) ≡ 0
+      → judgeRows n (drop i rows) i ≡ judgeRows n (drop (i + 1) rows) (i + 1)
   unfolding judgeRows
   judge-next h good = rw (drop-cons rows i none h, eq-eqb (rowRefusal n (getD rows i none)) 0 good, add-one)
 
@@ -46,7 +48,8 @@ module _ (src dst due : List ℕ) where
   unfolding rowsOf
   rows-long = length-build (length src) _
 
-  pub rows-at : (i : ℕ) → i < length src → getD (rowsOf src dst due) i none ≡ record { src = getD src i 0; dst = getD dst i 0; due = getD due i 0 }
+  pub rows-at : (i : ℕ) → i < length src
+      → getD (rowsOf src dst due) i none ≡ record { src = getD src i 0; dst = getD dst i 0; due = getD due i 0 }
   unfolding rowsOf
   rows-at i h = getD-build (length src) _ i none h
 
@@ -55,9 +58,12 @@ module _ (src dst due : List ℕ) (same : SameRows src dst due) where
   abbrev rows : List Row
   rows = rowsOf src dst due
 
-  of-rows : (f : Row → ℕ) (list : List ℕ) → length list ≡ length src → ((i : ℕ) → f (record { src = getD src i 0; dst = getD dst i 0; due = getD due i 0 }) ≡ getD list i 0) → map f rows ≡ list
+  of-rows : (f : Row → ℕ) (list : List ℕ) → length list ≡ length src
+      → ((i : ℕ) → f (record { src = getD src i 0; dst = getD dst i 0; due = getD due i 0 }) ≡ getD list i 0)
+      → map f rows ≡ list
   unfolding rowsOf
-  of-rows f list long at = map-build (length src) f _ ∙ build-ext (length src) _ _ (λ i h. at i) ∙ build-of (length src) 0 list long
+  of-rows f list long at =
+      map-build (length src) f _ ∙ build-ext (length src) _ _ (λ i h. at i) ∙ build-of (length src) 0 list long
 
   pub its-destinations : destinations rows ≡ dst
   unfolding destinations
@@ -81,9 +87,12 @@ pub record GoodRow (n : ℕ) (r : Row) : Type 0 where
 
 good-row : (n : ℕ) (r : Row) → rowRefusal n r ≡ 0 → GoodRow n r
 unfolding rowRefusal
-good-row n r e = go (leb n (r .src)) refl (leb n (r .dst)) refl (eqb (r .src) (r .dst)) refl (eqb (r .due) 0) refl (ltb latest-due (r .due)) refl e
+good-row n r e =
+    go (leb n (r .src)) refl (leb n (r .dst)) refl (eqb (r .src) (r .dst)) refl (eqb (r .due) 0) refl
+    (ltb latest-due (r .due)) refl e
   where
-    go : (a : Bool) → leb n (r .src) ≡ a → (b : Bool) → leb n (r .dst) ≡ b → (c : Bool) → eqb (r .src) (r .dst) ≡ c → (d : Bool) → eqb (r .due) 0 ≡ d → (f : Bool) → ltb latest-due (r .due) ≡ f
+    go : (a : Bool) → leb n (r .src) ≡ a → (b : Bool) → leb n (r .dst) ≡ b → (c : Bool) → eqb (r .src) (r .dst) ≡ c
+        → (d : Bool) → eqb (r .due) 0 ≡ d → (f : Bool) → ltb latest-due (r .due) ≡ f
         → _≡_ {A = ℕ} (cond a 3 (cond b 4 (cond c 5 (cond (d || f) 6 0)))) 0 → GoodRow n r
     go true ha b hb c hc d hd f hf z = absurd (omega arith)
     go false ha true hb c hc d hd f hf z = absurd (omega arith)
@@ -100,28 +109,36 @@ good-row n r e = go (leb n (r .src)) refl (leb n (r .dst)) refl (eqb (r .src) (r
         }
 
 -- Every row of a table without a bad row is good.
-pub good-rows : (n : ℕ) (rows : List Row) (above : ℕ) → judgeRows n rows above ≡ Good → (i : ℕ) → i < length rows → GoodRow n (getD rows i none)
+pub good-rows : (n : ℕ) (rows : List Row) (above : ℕ) → judgeRows n rows above ≡ Good → (i : ℕ) → i < length rows
+    → GoodRow n (getD rows i none)
 unfolding judgeRows
 good-rows n [] above e i h = absurd (omega arith)
 good-rows n (r ∷ rs) above e i h = go (rowRefusal n r) refl e i h (good-rows n rs (suc above))
   where
-    go : (k : ℕ) → rowRefusal n r ≡ k → cond (eqb k 0) (judgeRows n rs (suc above)) (Refused (refuse k (suc above) 0)) ≡ Good → (i : ℕ) → i < suc (length rs)
-        → (judgeRows n rs (suc above) ≡ Good → (j : ℕ) → j < length rs → GoodRow n (getD rs j none)) → GoodRow n (getD (r ∷ rs) i none)
+    go : (k : ℕ) → rowRefusal n r ≡ k
+        → cond (eqb k 0) (judgeRows n rs (suc above)) (Refused (refuse k (suc above) 0)) ≡ Good → (i : ℕ)
+        → i < suc (length rs)
+        → (judgeRows n rs (suc above) ≡ Good → (j : ℕ) → j < length rs → GoodRow n (getD rs j none))
+        → GoodRow n (getD (r ∷ rs) i none)
     go zero k z zero l rest = good-row n r k
     go zero k z (suc j) l rest = rest z j (omega arith)
     go (suc m) k z j l rest = let never : _≡_ {A = ℕ} 0 1 = cc (eqb·suc-zero m) in absurd (omega arith)
 
 -- A bad row is refused by a number below 7.
-pub judged-early : (n : ℕ) (rows : List Row) (above : ℕ) (r : Refusal) → judgeRows n rows above ≡ Refused r → r .number < 7
+pub judged-early : (n : ℕ) (rows : List Row) (above : ℕ) (r : Refusal) → judgeRows n rows above ≡ Refused r
+    → r .number < 7
 unfolding judgeRows rowRefusal
 judged-early n [] above r e = let never : _≡_ {A = ℕ} 0 1 = cc in absurd (omega arith)
 judged-early n (x ∷ rows) above r e = go (eqb (rowRefusal n x) 0) e (judged-early n rows (suc above) r)
   where
-    go : (b : Bool) → cond b (judgeRows n rows (suc above)) (Refused (refuse (rowRefusal n x) (suc above) 0)) ≡ Refused r → (judgeRows n rows (suc above) ≡ Refused r → r .number < 7) → r .number < 7
+    go : (b : Bool) → cond b (judgeRows n rows (suc above))
+        (Refused (refuse (rowRefusal n x) (suc above) 0)) ≡ Refused r
+        → (judgeRows n rows (suc above) ≡ Refused r → r .number < 7) → r .number < 7
     go true f rest = rest f
     go false f rest =
         let is : rowRefusal n x ≡ r .number = cc in
-        rw (← is) (early (leb n (x .src)) (leb n (x .dst)) (eqb (x .src) (x .dst)) (eqb (x .due) 0 || ltb latest-due (x .due)))
+        rw (← is) (early (leb n (x .src)) (leb n (x .dst)) (eqb (x .src) (x .dst))
+        (eqb (x .due) 0 || ltb latest-due (x .due)))
       where
         early : (a b c d : Bool) → cond a 3 (cond b 4 (cond c 5 (cond d 6 0))) < 7
         early true b c d = omega arith

@@ -44,7 +44,8 @@ pub length-listed : (n : ℕ) (c : Columns) → length (listed n c) ≡ n
 unfolding listed
 length-listed n c = length-build n (rowOf c)
 
-entry : (f : Row → ℕ) → f none ≡ 0 → (rows : List Row) (i : ℕ) → i < 512 → getD (column (map f rows)) i 0 ≡ f (getD rows i none)
+entry : (f : Row → ℕ) → f none ≡ 0 → (rows : List Row) (i : ℕ) → i < 512
+    → getD (column (map f rows)) i 0 ≡ f (getD rows i none)
 entry f z rows i small = column-at (map f rows) i small ∙ ap (getD (map f rows) i) (sym z) ∙ List·getD-map f rows i none
 
 same-row : {a b c : ℕ} (r : Row) → a ≡ r .src → b ≡ r .dst → c ≡ r .due → record { src = a; dst = b; due = c } ≡ r
@@ -52,23 +53,33 @@ same-row r h₁ h₂ h₃ = λ i. record { src = h₁ i; dst = h₂ i; due = h�
 
 row-of : (rows : List Row) (i : ℕ) → i < 512 → rowOf (columns rows) i ≡ getD rows i none
 unfolding columns sources destinations dues
-row-of rows i l = same-row (getD rows i none) (entry (λ r. r .src) refl rows i l) (entry (λ r. r .dst) refl rows i l) (entry (λ r. r .due) refl rows i l)
+row-of rows i l =
+    same-row (getD rows i none) (entry (λ r. r .src) refl rows i l) (entry (λ r. r .dst) refl rows i l)
+    (entry (λ r. r .due) refl rows i l)
 
 pub listed-columns : (rows : List Row) → length rows ≤ 512 → listed (length rows) (columns rows) ≡ rows
 unfolding listed
 listed-columns rows few =
-    build-ext (length rows) (rowOf (columns rows)) (λ i. getD rows i none) (λ i l. row-of rows i (omega arith)) ∙ build-of (length rows) none rows refl
+    build-ext (length rows) (rowOf (columns rows)) (λ i. getD rows i none) (λ i l. row-of rows i (omega arith))
+    ∙ build-of (length rows) none rows refl
 
 -- ---- the rows that columns of just their length hold
 pub rows-of-columns : (rows : List Row) → rowsOf (sources rows) (destinations rows) (dues rows) ≡ rows
 unfolding rowsOf sources destinations dues
 rows-of-columns rows =
     rw (length-map (λ r. r .src) rows)
-    (build-ext (length rows) _ (λ i. getD rows i none) (λ i l. same-row (getD rows i none) (List·getD-map (λ r. r .src) rows i none) (List·getD-map (λ r. r .dst) rows i none) (List·getD-map (λ r. r .due) rows i none))
+    (build-ext (length rows) _ (λ i. getD rows i none)
+    (λ i l. same-row (getD rows i none) (List·getD-map (λ r. r .src) rows i none)
+    (List·getD-map (λ r. r .dst) rows i none) (List·getD-map (λ r. r .due) rows i none))
     ∙ build-of (length rows) none rows refl)
 
 pub same-rows : (rows : List Row) → length rows ≤ 512 → SameRows (sources rows) (destinations rows) (dues rows)
 unfolding sources destinations dues
 same-rows rows few =
     let s = length-map (λ r. r .src) rows in
-    record { few = omega arith; dst-each = length-map (λ r. r .dst) rows ∙ sym s; due-each = length-map (λ r. r .due) rows ∙ sym s }
+    record {
+      few = omega arith;
+      dst-each = length-map (λ r. r .dst) rows
+          ∙ sym s;
+      due-each = length-map (λ r. r .due) rows ∙ sym s;
+    }

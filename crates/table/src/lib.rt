@@ -86,7 +86,8 @@ pub fn judge_rows(nodes: u16, src: &[u16], dst: &[u16], due: &[u16]) -> Verdict
 // Writes down how many links each row has to go.
 pub fn measure(nodes: u16, src: &[u16], dst: &[u16], left: &mut [u16])
     requires { ⌜ Measuring nodes (now src) (now dst) (now left) ⌝ }
-    ensures { λ _. ⌜ now (left .exit) ≡ build (length (now (src .entry))) (λ i. distance nodes (getD (now (src .entry)) i 0) (getD (now (dst .entry)) i 0)) ⌝ }
+    ensures { λ _. ⌜ now (left .exit) ≡ build (length (now (src .entry)))
+        (λ i. distance nodes (getD (now (src .entry)) i 0) (getD (now (dst .entry)) i 0)) ⌝ }
 {
     let mut i = 0;
     while i < left.len() {

@@ -8,7 +8,10 @@ use Rattle.table.specs.Table.{refuse}
 use Rattle.table.specs.declared.Row.{Row}
 use Rattle.text.specs.declared.Reading.the-variants.{Read, Refused}
 use Rattle.text.specs.declared.Writing.the-variants.{Written, Refused as NotWritten}
-use Rattle.text.specs.Text.{width, lastDigits, numeral, line, row-keys, linesText, rowText, rowsText, textOf, starts, digitsAt, extended, itemValue, itemGood, itemRest, valuesAt, behindLines, wrongLine, rowsKeys, rowAt, rowsAt, nodesIn, rowsIn, bodyOf, readingOfRows, readingOfBody, readingOf, rowsRead, writingOf, areaAfter}
+use Rattle.text.specs.Text.{width, lastDigits, numeral, line, row-keys, linesText, rowText, rowsText, textOf}
+use Rattle.text.specs.Text.{starts, digitsAt, extended, itemValue, itemGood, itemRest, valuesAt, behindLines}
+use Rattle.text.specs.Text.{wrongLine, rowsKeys, rowAt, rowsAt, nodesIn, rowsIn, bodyOf, readingOfRows}
+use Rattle.text.specs.Text.{readingOfBody, readingOf, rowsRead, writingOf, areaAfter}
 
 -- The rows of case B, and its text as document 01 prints it.
 abbrev pub case-b : List Row
@@ -30,11 +33,13 @@ unfolding width lastDigits numeral line row-keys linesText rowText rowsText text
 case-b-written = refl
 
 pub case-b-read : readingOf case-b-text 2 ≡ Read (record { nodes = 4; rows = 2 })
-unfolding width lastDigits numeral line starts digitsAt extended itemValue itemGood itemRest row-keys valuesAt behindLines wrongLine rowsKeys rowAt rowsAt nodesIn rowsIn bodyOf readingOfRows readingOfBody readingOf
+unfolding width lastDigits numeral line starts digitsAt extended itemValue itemGood itemRest row-keys valuesAt
+    behindLines wrongLine rowsKeys rowAt rowsAt nodesIn rowsIn bodyOf readingOfRows readingOfBody readingOf
 case-b-read = refl
 
 pub case-b-rows : rowsRead case-b-text 2 ≡ case-b
-unfolding width lastDigits numeral line starts digitsAt extended itemValue itemGood itemRest row-keys valuesAt behindLines wrongLine rowsKeys rowAt rowsAt nodesIn rowsIn bodyOf readingOfRows readingOfBody readingOf rowsRead
+unfolding width lastDigits numeral line starts digitsAt extended itemValue itemGood itemRest row-keys valuesAt
+    behindLines wrongLine rowsKeys rowAt rowsAt nodesIn rowsIn bodyOf readingOfRows readingOfBody readingOf rowsRead
 case-b-rows = refl
 
 -- Its text has 51 bytes: an area of 50 is too short, one of 51 will do, and of one of 53 two bytes are left alone.
@@ -51,7 +56,8 @@ unfolding width lastDigits numeral line row-keys linesText rowText rowsText text
 case-b-in-area = refl
 
 -- A table of 513 rows is not written, however long the area is.
-pub too-many-rows : writingOf 4 (replicate {A = Row} 513 (record { src = 0; dst = 1; due = 2 })) 20000 ≡ NotWritten (refuse 2 0 0)
+pub too-many-rows : writingOf 4 (replicate {A = Row} 513 (record { src = 0; dst = 1; due = 2 })) 20000 ≡ NotWritten
+    (refuse 2 0 0)
 unfolding width lastDigits numeral line row-keys linesText rowText rowsText textOf writingOf
 too-many-rows = refl
 
@@ -67,47 +73,137 @@ wrong-texts =
     -- the empty text
     record { text = []; number = 20; place = 1 } ∷
     -- one above the greatest value
-    record { text = 110 ∷ 111 ∷ 100 ∷ 101 ∷ 115 ∷ 61 ∷ 54 ∷ 53 ∷ 53 ∷ 51 ∷ 54 ∷ 10 ∷ 114 ∷ 111 ∷ 119 ∷ 115 ∷ 61 ∷ 48 ∷ 10 ∷ []; number = 20; place = 1 } ∷
+    record {
+      text =
+          110 ∷ 111 ∷ 100 ∷ 101 ∷ 115 ∷ 61 ∷ 54 ∷ 53 ∷ 53 ∷ 51 ∷ 54 ∷ 10 ∷ 114 ∷ 111 ∷ 119 ∷ 115 ∷ 61 ∷ 48 ∷ 10 ∷ [];
+      number = 20;
+      place = 1;
+    } ∷
     -- two zeros
-    record { text = 110 ∷ 111 ∷ 100 ∷ 101 ∷ 115 ∷ 61 ∷ 48 ∷ 48 ∷ 10 ∷ 114 ∷ 111 ∷ 119 ∷ 115 ∷ 61 ∷ 48 ∷ 10 ∷ []; number = 20; place = 1 } ∷
+    record {
+      text = 110 ∷ 111 ∷ 100 ∷ 101 ∷ 115 ∷ 61 ∷ 48 ∷ 48 ∷ 10 ∷ 114 ∷ 111 ∷ 119 ∷ 115 ∷ 61 ∷ 48 ∷ 10 ∷ [];
+      number = 20;
+      place = 1;
+    } ∷
     -- a leading zero
-    record { text = 110 ∷ 111 ∷ 100 ∷ 101 ∷ 115 ∷ 61 ∷ 48 ∷ 49 ∷ 10 ∷ 114 ∷ 111 ∷ 119 ∷ 115 ∷ 61 ∷ 48 ∷ 10 ∷ []; number = 20; place = 1 } ∷
+    record {
+      text = 110 ∷ 111 ∷ 100 ∷ 101 ∷ 115 ∷ 61 ∷ 48 ∷ 49 ∷ 10 ∷ 114 ∷ 111 ∷ 119 ∷ 115 ∷ 61 ∷ 48 ∷ 10 ∷ [];
+      number = 20;
+      place = 1;
+    } ∷
     -- no digit
-    record { text = 110 ∷ 111 ∷ 100 ∷ 101 ∷ 115 ∷ 61 ∷ 10 ∷ 114 ∷ 111 ∷ 119 ∷ 115 ∷ 61 ∷ 48 ∷ 10 ∷ []; number = 20; place = 1 } ∷
+    record {
+      text = 110 ∷ 111 ∷ 100 ∷ 101 ∷ 115 ∷ 61 ∷ 10 ∷ 114 ∷ 111 ∷ 119 ∷ 115 ∷ 61 ∷ 48 ∷ 10 ∷ [];
+      number =
+          20;
+      place = 1;
+    } ∷
     -- a carriage return
-    record { text = 110 ∷ 111 ∷ 100 ∷ 101 ∷ 115 ∷ 61 ∷ 52 ∷ 13 ∷ 10 ∷ 114 ∷ 111 ∷ 119 ∷ 115 ∷ 61 ∷ 48 ∷ 10 ∷ []; number = 20; place = 1 } ∷
+    record {
+      text = 110 ∷ 111 ∷ 100 ∷ 101 ∷ 115 ∷ 61 ∷ 52 ∷ 13 ∷ 10 ∷ 114 ∷ 111 ∷ 119 ∷ 115 ∷ 61 ∷ 48 ∷ 10 ∷ [];
+      number = 20;
+      place = 1;
+    } ∷
     -- a sign
-    record { text = 110 ∷ 111 ∷ 100 ∷ 101 ∷ 115 ∷ 61 ∷ 43 ∷ 52 ∷ 10 ∷ 114 ∷ 111 ∷ 119 ∷ 115 ∷ 61 ∷ 48 ∷ 10 ∷ []; number = 20; place = 1 } ∷
+    record {
+      text = 110 ∷ 111 ∷ 100 ∷ 101 ∷ 115 ∷ 61 ∷ 43 ∷ 52 ∷ 10 ∷ 114 ∷ 111 ∷ 119 ∷ 115 ∷ 61 ∷ 48 ∷ 10 ∷ [];
+      number = 20;
+      place = 1;
+    } ∷
     -- no line feed
     record { text = 110 ∷ 111 ∷ 100 ∷ 101 ∷ 115 ∷ 61 ∷ 52 ∷ []; number = 20; place = 1 } ∷
     -- line 2 missing
     record { text = 110 ∷ 111 ∷ 100 ∷ 101 ∷ 115 ∷ 61 ∷ 52 ∷ 10 ∷ []; number = 20; place = 2 } ∷
     -- a leading zero in line 2
-    record { text = 110 ∷ 111 ∷ 100 ∷ 101 ∷ 115 ∷ 61 ∷ 52 ∷ 10 ∷ 114 ∷ 111 ∷ 119 ∷ 115 ∷ 61 ∷ 48 ∷ 53 ∷ 49 ∷ 51 ∷ 10 ∷ []; number = 20; place = 2 } ∷
+    record {
+      text =
+          110 ∷ 111 ∷ 100 ∷ 101 ∷ 115 ∷ 61 ∷ 52 ∷ 10 ∷ 114 ∷ 111 ∷ 119 ∷ 115 ∷ 61 ∷ 48 ∷ 53 ∷ 49 ∷ 51 ∷ 10 ∷ [];
+      number =
+          20;
+      place = 2;
+    } ∷
     -- one above the greatest value in line 2
-    record { text = 110 ∷ 111 ∷ 100 ∷ 101 ∷ 115 ∷ 61 ∷ 52 ∷ 10 ∷ 114 ∷ 111 ∷ 119 ∷ 115 ∷ 61 ∷ 54 ∷ 53 ∷ 53 ∷ 51 ∷ 54 ∷ 10 ∷ []; number = 20; place = 2 } ∷
+    record {
+      text =
+          110 ∷ 111 ∷ 100 ∷ 101 ∷ 115 ∷ 61 ∷ 52 ∷ 10 ∷ 114 ∷ 111 ∷ 119 ∷ 115 ∷ 61 ∷ 54 ∷ 53 ∷ 53 ∷ 51 ∷ 54 ∷ 10 ∷ [];
+      number = 20;
+      place = 2;
+    } ∷
     -- line 2 without its line feed
-    record { text = 110 ∷ 111 ∷ 100 ∷ 101 ∷ 115 ∷ 61 ∷ 52 ∷ 10 ∷ 114 ∷ 111 ∷ 119 ∷ 115 ∷ 61 ∷ 53 ∷ 49 ∷ 51 ∷ []; number = 20; place = 2 } ∷
+    record {
+      text = 110 ∷ 111 ∷ 100 ∷ 101 ∷ 115 ∷ 61 ∷ 52 ∷ 10 ∷ 114 ∷ 111 ∷ 119 ∷ 115 ∷ 61 ∷ 53 ∷ 49 ∷ 51 ∷ [];
+      number = 20;
+      place = 2;
+    } ∷
     -- too many rows
-    record { text = 110 ∷ 111 ∷ 100 ∷ 101 ∷ 115 ∷ 61 ∷ 51 ∷ 51 ∷ 10 ∷ 114 ∷ 111 ∷ 119 ∷ 115 ∷ 61 ∷ 53 ∷ 49 ∷ 51 ∷ 10 ∷ []; number = 2; place = 0 } ∷
+    record {
+      text =
+          110 ∷ 111 ∷ 100 ∷ 101 ∷ 115 ∷ 61 ∷ 51 ∷ 51 ∷ 10 ∷ 114 ∷ 111 ∷ 119 ∷ 115 ∷ 61 ∷ 53 ∷ 49 ∷ 51 ∷ 10 ∷ [];
+      number =
+          2;
+      place = 0;
+    } ∷
     -- more rows than records lent
-    record { text = 110 ∷ 111 ∷ 100 ∷ 101 ∷ 115 ∷ 61 ∷ 51 ∷ 51 ∷ 10 ∷ 114 ∷ 111 ∷ 119 ∷ 115 ∷ 61 ∷ 53 ∷ 49 ∷ 50 ∷ 10 ∷ []; number = 21; place = 0 } ∷
+    record {
+      text =
+          110 ∷ 111 ∷ 100 ∷ 101 ∷ 115 ∷ 61 ∷ 51 ∷ 51 ∷ 10 ∷ 114 ∷ 111 ∷ 119 ∷ 115 ∷ 61 ∷ 53 ∷ 49 ∷ 50 ∷ 10 ∷ [];
+      number =
+          21;
+      place = 0;
+    } ∷
     -- the last line feed missing
-    record { text = 110 ∷ 111 ∷ 100 ∷ 101 ∷ 115 ∷ 61 ∷ 52 ∷ 10 ∷ 114 ∷ 111 ∷ 119 ∷ 115 ∷ 61 ∷ 49 ∷ 10 ∷ 115 ∷ 114 ∷ 99 ∷ 61 ∷ 48 ∷ 10 ∷ 100 ∷ 115 ∷ 116 ∷ 61 ∷ 49 ∷ 10 ∷ 100 ∷ 117 ∷ 101 ∷ 61 ∷ 50 ∷ []; number = 20; place = 5 } ∷
+    record {
+      text =
+          110 ∷ 111 ∷ 100 ∷ 101 ∷ 115 ∷ 61 ∷ 52 ∷ 10 ∷ 114 ∷ 111 ∷ 119 ∷ 115 ∷ 61 ∷ 49 ∷ 10 ∷ 115 ∷ 114 ∷ 99 ∷ 61 ∷ 48 ∷ 10 ∷ 100 ∷ 115 ∷ 116 ∷ 61 ∷ 49 ∷ 10 ∷ 100 ∷ 117 ∷ 101 ∷ 61 ∷ 50 ∷ [];
+      number = 20;
+      place = 5;
+    } ∷
     -- the last line missing
-    record { text = 110 ∷ 111 ∷ 100 ∷ 101 ∷ 115 ∷ 61 ∷ 52 ∷ 10 ∷ 114 ∷ 111 ∷ 119 ∷ 115 ∷ 61 ∷ 49 ∷ 10 ∷ 115 ∷ 114 ∷ 99 ∷ 61 ∷ 48 ∷ 10 ∷ 100 ∷ 115 ∷ 116 ∷ 61 ∷ 49 ∷ 10 ∷ []; number = 20; place = 5 } ∷
+    record {
+      text =
+          110 ∷ 111 ∷ 100 ∷ 101 ∷ 115 ∷ 61 ∷ 52 ∷ 10 ∷ 114 ∷ 111 ∷ 119 ∷ 115 ∷ 61 ∷ 49 ∷ 10 ∷ 115 ∷ 114 ∷ 99 ∷ 61 ∷ 48 ∷ 10 ∷ 100 ∷ 115 ∷ 116 ∷ 61 ∷ 49 ∷ 10 ∷ [];
+      number = 20;
+      place = 5;
+    } ∷
     -- two lines in the wrong order
-    record { text = 110 ∷ 111 ∷ 100 ∷ 101 ∷ 115 ∷ 61 ∷ 52 ∷ 10 ∷ 114 ∷ 111 ∷ 119 ∷ 115 ∷ 61 ∷ 49 ∷ 10 ∷ 115 ∷ 114 ∷ 99 ∷ 61 ∷ 48 ∷ 10 ∷ 100 ∷ 117 ∷ 101 ∷ 61 ∷ 49 ∷ 10 ∷ 100 ∷ 115 ∷ 116 ∷ 61 ∷ 50 ∷ 10 ∷ []; number = 20; place = 4 } ∷
+    record {
+      text =
+          110 ∷ 111 ∷ 100 ∷ 101 ∷ 115 ∷ 61 ∷ 52 ∷ 10 ∷ 114 ∷ 111 ∷ 119 ∷ 115 ∷ 61 ∷ 49 ∷ 10 ∷ 115 ∷ 114 ∷ 99 ∷ 61 ∷ 48 ∷ 10 ∷ 100 ∷ 117 ∷ 101 ∷ 61 ∷ 49 ∷ 10 ∷ 100 ∷ 115 ∷ 116 ∷ 61 ∷ 50 ∷ 10 ∷ [];
+      number = 20;
+      place = 4;
+    } ∷
     -- no number
-    record { text = 110 ∷ 111 ∷ 100 ∷ 101 ∷ 115 ∷ 61 ∷ 52 ∷ 10 ∷ 114 ∷ 111 ∷ 119 ∷ 115 ∷ 61 ∷ 49 ∷ 10 ∷ 115 ∷ 114 ∷ 99 ∷ 61 ∷ 120 ∷ 10 ∷ 100 ∷ 115 ∷ 116 ∷ 61 ∷ 49 ∷ 10 ∷ 100 ∷ 117 ∷ 101 ∷ 61 ∷ 50 ∷ 10 ∷ []; number = 20; place = 3 } ∷
+    record {
+      text =
+          110 ∷ 111 ∷ 100 ∷ 101 ∷ 115 ∷ 61 ∷ 52 ∷ 10 ∷ 114 ∷ 111 ∷ 119 ∷ 115 ∷ 61 ∷ 49 ∷ 10 ∷ 115 ∷ 114 ∷ 99 ∷ 61 ∷ 120 ∷ 10 ∷ 100 ∷ 115 ∷ 116 ∷ 61 ∷ 49 ∷ 10 ∷ 100 ∷ 117 ∷ 101 ∷ 61 ∷ 50 ∷ 10 ∷ [];
+      number = 20;
+      place = 3;
+    } ∷
     -- one byte behind the last line
-    record { text = 110 ∷ 111 ∷ 100 ∷ 101 ∷ 115 ∷ 61 ∷ 52 ∷ 10 ∷ 114 ∷ 111 ∷ 119 ∷ 115 ∷ 61 ∷ 49 ∷ 10 ∷ 115 ∷ 114 ∷ 99 ∷ 61 ∷ 48 ∷ 10 ∷ 100 ∷ 115 ∷ 116 ∷ 61 ∷ 49 ∷ 10 ∷ 100 ∷ 117 ∷ 101 ∷ 61 ∷ 50 ∷ 10 ∷ 10 ∷ []; number = 20; place = 6 } ∷
+    record {
+      text =
+          110 ∷ 111 ∷ 100 ∷ 101 ∷ 115 ∷ 61 ∷ 52 ∷ 10 ∷ 114 ∷ 111 ∷ 119 ∷ 115 ∷ 61 ∷ 49 ∷ 10 ∷ 115 ∷ 114 ∷ 99 ∷ 61 ∷ 48 ∷ 10 ∷ 100 ∷ 115 ∷ 116 ∷ 61 ∷ 49 ∷ 10 ∷ 100 ∷ 117 ∷ 101 ∷ 61 ∷ 50 ∷ 10 ∷ 10 ∷ [];
+      number = 20;
+      place = 6;
+    } ∷
     -- a byte behind an empty table
-    record { text = 110 ∷ 111 ∷ 100 ∷ 101 ∷ 115 ∷ 61 ∷ 52 ∷ 10 ∷ 114 ∷ 111 ∷ 119 ∷ 115 ∷ 61 ∷ 48 ∷ 10 ∷ 0 ∷ []; number = 20; place = 3 } ∷
+    record {
+      text = 110 ∷ 111 ∷ 100 ∷ 101 ∷ 115 ∷ 61 ∷ 52 ∷ 10 ∷ 114 ∷ 111 ∷ 119 ∷ 115 ∷ 61 ∷ 48 ∷ 10 ∷ 0 ∷ [];
+      number =
+          20;
+      place = 3;
+    } ∷
     -- six digits
-    record { text = 110 ∷ 111 ∷ 100 ∷ 101 ∷ 115 ∷ 61 ∷ 52 ∷ 10 ∷ 114 ∷ 111 ∷ 119 ∷ 115 ∷ 61 ∷ 49 ∷ 10 ∷ 115 ∷ 114 ∷ 99 ∷ 61 ∷ 48 ∷ 10 ∷ 100 ∷ 115 ∷ 116 ∷ 61 ∷ 49 ∷ 10 ∷ 100 ∷ 117 ∷ 101 ∷ 61 ∷ 49 ∷ 50 ∷ 51 ∷ 52 ∷ 53 ∷ 54 ∷ 10 ∷ []; number = 20; place = 5 } ∷
+    record {
+      text =
+          110 ∷ 111 ∷ 100 ∷ 101 ∷ 115 ∷ 61 ∷ 52 ∷ 10 ∷ 114 ∷ 111 ∷ 119 ∷ 115 ∷ 61 ∷ 49 ∷ 10 ∷ 115 ∷ 114 ∷ 99 ∷ 61 ∷ 48 ∷ 10 ∷ 100 ∷ 115 ∷ 116 ∷ 61 ∷ 49 ∷ 10 ∷ 100 ∷ 117 ∷ 101 ∷ 61 ∷ 49 ∷ 50 ∷ 51 ∷ 52 ∷ 53 ∷ 54 ∷ 10 ∷ [];
+      number = 20;
+      place = 5;
+    } ∷
     []
 
-pub wrong-texts-refused : map (λ (w : Wrong). readingOf (w .text) 2) wrong-texts ≡ map (λ (w : Wrong). Refused (refuse (w .number) (w .place) 0)) wrong-texts
-unfolding width lastDigits numeral line starts digitsAt extended itemValue itemGood itemRest row-keys valuesAt behindLines wrongLine rowsKeys rowAt rowsAt nodesIn rowsIn bodyOf readingOfRows readingOfBody readingOf
+pub wrong-texts-refused : map (λ (w : Wrong). readingOf (w .text) 2) wrong-texts ≡ map
+    (λ (w : Wrong). Refused (refuse (w .number) (w .place) 0)) wrong-texts
+unfolding width lastDigits numeral line starts digitsAt extended itemValue itemGood itemRest row-keys valuesAt
+    behindLines wrongLine rowsKeys rowAt rowsAt nodesIn rowsIn bodyOf readingOfRows readingOfBody readingOf
 wrong-texts-refused = refl

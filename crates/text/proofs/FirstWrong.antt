@@ -1,7 +1,8 @@
 -- Refusal 20 names the first line that is not exactly so.
 --     keysOf                   the keys of all lines of a text, in their order
 --     rightAt                  whether line k + 1 is exactly so
---     WrongAt, FirstWrong      the lines before line w are exactly so, and w is not, or bytes stand behind the last line
+--     WrongAt, FirstWrong      the lines before line w are exactly so, and w is not, or bytes stand behind the last
+--     line
 --     first-wrong              a text refused by 20 with w has w for its first wrong line
 -- Assumes nothing.
 use mathlib.Core.Path.{_≡_, refl, _∙_, ap, sym}
@@ -17,13 +18,16 @@ use Rattle.table.specs.Table.{refuse}
 use Rattle.table.specs.declared.Refusal.{Refusal}
 use Rattle.text.specs.declared.Header.{Header}
 use Rattle.text.specs.declared.Reading.the-variants.{Read, Refused}
-use Rattle.text.specs.Text.{nodes-key, rows-key, lineGood, lineRest, behindLines, wrongLine, rowsKeys, nodesIn, rowsIn, bodyOf, readingOfRows, readingOfBody, readingOf, numberOfReading, lineOfReading}
+use Rattle.text.specs.Text.{nodes-key, rows-key, lineGood, lineRest, behindLines, wrongLine, rowsKeys, nodesIn}
+use Rattle.text.specs.Text.{rowsIn, bodyOf, readingOfRows, readingOfBody, readingOf, numberOfReading}
+use Rattle.text.specs.Text.{lineOfReading}
 
 -- The keys of all lines of a text with so many rows: nodes, rows, then those of each row.
 abbrev pub keysOf : (rows : ℕ) → List (List ℕ)
 keysOf rows = nodes-key ∷ rows-key ∷ rowsKeys rows
 
--- Whether line k + 1 of a text whose lines have these keys is exactly so: its key's line stands behind the k lines before it.
+-- Whether line k + 1 of a text whose lines have these keys is exactly so: its key's line stands behind the k lines
+-- before it.
 unfoldable pub rightAt : (keys : List (List ℕ)) (text : List ℕ) (k : ℕ) → Bool
 rightAt keys text k = lineGood (getD keys k []) (behindLines (take k keys) text)
 
@@ -99,7 +103,8 @@ pub first-wrong : (text : List ℕ) (lent w : ℕ) → readingOf text lent ≡ R
     → FirstWrong text (rowsIn text) w
 unfolding readingOf readingOfBody readingOfRows bodyOf
 first-wrong text lent w e =
-    go (lineGood nodes-key text) (lineGood rows-key (lineRest nodes-key text)) (ltb 512 (rowsIn text)) (ltb lent (rowsIn text)) (eqb wrong 0) refl refl refl e
+    go (lineGood nodes-key text) (lineGood rows-key (lineRest nodes-key text)) (ltb 512 (rowsIn text))
+    (ltb lent (rowsIn text)) (eqb wrong 0) refl refl refl e
   where
     wrong : ℕ
     wrong = wrongLine (rowsKeys (rowsIn text)) (bodyOf text) 3
@@ -112,7 +117,9 @@ first-wrong text lent w e =
 
     go : (a b c d f : Bool) → lineGood nodes-key text ≡ a → lineGood rows-key (lineRest nodes-key text) ≡ b
         → eqb wrong 0 ≡ f
-        → cond a (cond b (cond c (Refused (refuse 2 0 0)) (cond d (Refused (refuse 21 0 0)) (cond f (Read found) (Refused (refuse 20 wrong 0))))) (Refused (refuse 20 2 0))) (Refused (refuse 20 1 0)) ≡ Refused (refuse 20 w 0)
+        → cond a (cond b (cond c (Refused (refuse 2 0 0)) (cond d (Refused (refuse 21 0 0))
+        (cond f (Read found) (Refused (refuse 20 wrong 0))))) (Refused (refuse 20 2 0)))
+        (Refused (refuse 20 1 0)) ≡ Refused (refuse 20 w 0)
         → FirstWrong text (rowsIn text) w
     go false b c d f p q t e = here-wrong nodes-key (rows-key ∷ after) text 1 w (same-line 1 w e) p
     go true false c d f p q t e =
@@ -124,5 +131,6 @@ first-wrong text lent w e =
     go true true false false false p q t e =
         let is : w ≡ wrong = same-line wrong w e in
         let some : (w ≡ 0 → ⊥) = λ z. eqb-false wrong 0 t (sym is ∙ z) in
-        let second = further rows-key after (lineRest nodes-key text) 2 w q (first-of after (bodyOf text) 3 w is some) in
+        let second = further rows-key after (lineRest nodes-key text) 2 w q
+        (first-of after (bodyOf text) 3 w is some) in
         further nodes-key (rows-key ∷ after) text 1 w p second

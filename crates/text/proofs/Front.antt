@@ -28,17 +28,20 @@ starts-true [] bytes e = refl
 starts-true (x ∷ xs) [] e = absurd (differ e)
 starts-true (x ∷ xs) (b ∷ bs) e = go (eqb x b) refl e (starts-true xs bs)
   where
-    go : (t : Bool) → eqb x b ≡ t → t && starts xs bs ≡ true → (starts xs bs ≡ true → bs ≡ xs ++ drop (length xs) bs) → b ∷ bs ≡ x ∷ (xs ++ drop (length xs) bs)
+    go : (t : Bool) → eqb x b ≡ t → t && starts xs bs ≡ true → (starts xs bs ≡ true → bs ≡ xs ++ drop (length xs) bs)
+        → b ∷ bs ≡ x ∷ (xs ++ drop (length xs) bs)
     go true s f rec = cc (eqb-true x b s, rec f)
     go false s f rec = absurd (differ f)
 
-pub starts-join : (xs ys bytes : List ℕ) → starts (xs ++ ys) bytes ≡ starts xs bytes && starts ys (drop (length xs) bytes)
+pub starts-join : (xs ys bytes : List ℕ)
+    → starts (xs ++ ys) bytes ≡ starts xs bytes && starts ys (drop (length xs) bytes)
 unfolding starts
 starts-join [] ys bytes = refl
 starts-join (x ∷ xs) ys [] = refl
 starts-join (x ∷ xs) ys (b ∷ bs) = go (eqb x b) (starts-join xs ys bs)
   where
-    go : (t : Bool) → starts (xs ++ ys) bs ≡ starts xs bs && starts ys (drop (length xs) bs) → t && starts (xs ++ ys) bs ≡ (t && starts xs bs) && starts ys (drop (length xs) bs)
+    go : (t : Bool) → starts (xs ++ ys) bs ≡ starts xs bs && starts ys (drop (length xs) bs)
+        → t && starts (xs ++ ys) bs ≡ (t && starts xs bs) && starts ys (drop (length xs) bs)
     go true e = e
     go false e = refl
 
@@ -53,16 +56,27 @@ unfolding starts
 starts-end xs bytes i h = rw (drop-of-length-le xs h)
 
 module _ (xs bytes : List ℕ) (at i : ℕ) (inside : i < length xs) (there : at + i < length bytes) where
-  pub starts-next : getD bytes (at + i) 0 ≡ getD xs i 0 → starts (drop i xs) (drop (at + i) bytes) ≡ starts (drop (i + 1) xs) (drop (at + (i + 1)) bytes)
+  pub starts-next : getD bytes (at + i) 0 ≡ getD xs i 0
+      → starts (drop i xs) (drop (at + i) bytes) ≡ starts (drop (i + 1) xs) (drop (at + (i + 1)) bytes)
   unfolding starts
   starts-next e =
       let one : at + (i + 1) ≡ suc (at + i) = omega arith in
-      rw (one, add-one, drop-cons xs i 0 inside, drop-cons bytes (at + i) 0 there, eq-eqb (getD xs i 0) (getD bytes (at + i) 0) (sym e))
+      rw (
+        one,
+        add-one,
+        drop-cons xs i 0 inside,
+        drop-cons bytes (at + i) 0 there,
+        eq-eqb (getD xs i 0) (getD bytes (at + i) 0) (sym e),
+      )
 
   pub starts-differ : (getD bytes (at + i) 0 ≡ getD xs i 0 → ⊥) → starts (drop i xs) (drop (at + i) bytes) ≡ false
   unfolding starts
   starts-differ d =
-      rw (drop-cons xs i 0 inside, drop-cons bytes (at + i) 0 there, ne-eqb (getD xs i 0) (getD bytes (at + i) 0) (λ e. d (sym e)))
+      rw (
+        drop-cons xs i 0 inside,
+        drop-cons bytes (at + i) 0 there,
+        ne-eqb (getD xs i 0) (getD bytes (at + i) 0) (λ e. d (sym e)),
+      )
 
 -- the key is longer than what is left of the text
 pub starts-past : (xs bytes : List ℕ) (at : ℕ) → length bytes - at < length xs → starts xs (drop at bytes) ≡ false

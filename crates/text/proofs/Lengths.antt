@@ -27,7 +27,8 @@ pub lines-most : (keys : List (List ℕ)) (vs : List ℕ) → length (linesText 
 unfolding linesText bytesOf
 lines-most [] vs = omega arith
 lines-most (k ∷ ks) [] = omega arith
-lines-most (k ∷ ks) (v ∷ vs) = omega (arith, length-append (line k v) (linesText ks vs), line-most k v, lines-most ks vs)
+lines-most (k ∷ ks) (v ∷ vs) =
+    omega (arith, length-append (line k v) (linesText ks vs), line-most k v, lines-most ks vs)
 
 -- the bytes that are enough for the lines of a row
 abbrev pub row-bytes : ℕ

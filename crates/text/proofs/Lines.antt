@@ -15,7 +15,8 @@ use lib.Dec.{leb}
 use lib.ListN.{length, drop, length-append}
 use lib.Seq.{drop-append-seam}
 use Rattle.lists.proofs.Truth.{both-hold}
-use Rattle.text.specs.Text.{line-feed, greatest-value, width, numeral, item, line, starts, isDigit, itemValue, itemGood, itemRest, lineValue, lineGood, lineRest}
+use Rattle.text.specs.Text.{line-feed, greatest-value, width, numeral, item, line, starts, isDigit, itemValue}
+use Rattle.text.specs.Text.{itemGood, itemRest, lineValue, lineGood, lineRest}
 use Rattle.text.proofs.Numeral.{numeral-length, numeral-digits, numeral-value, width-most, digits-read}
 use Rattle.text.proofs.Front.{starts-self, starts-true}
 
@@ -33,14 +34,19 @@ behind : (key : List ℕ) (v mark : ℕ) (rest : List ℕ)
 behind key v mark rest =
     ap (drop (length key)) (simp append-assoc) ∙ drop-append-seam key (numeral v ++ (mark ∷ rest))
 
-module _ (key : List ℕ) (v mark : ℕ) (rest : List ℕ) (no-digit : isDigit mark ≡ false) (small : v ≤ greatest-value) where
+module _ (key : List ℕ) (v mark : ℕ) (rest : List ℕ) (no-digit : isDigit mark ≡ false)
+    (small : v ≤ greatest-value) where
   abbrev here : List ℕ
   here = item key v mark ++ rest
 
   found-value : itemValue key here ≡ v
   unfolding itemValue
   found-value =
-      rw (behind key v mark rest, digits-read 5 (numeral v) mark rest no-digit (numeral-digits v) (rw (numeral-length v) (width-most v)))
+      rw (
+        behind key v mark rest,
+        digits-read 5 (numeral v) mark rest no-digit (numeral-digits v)
+            (rw (numeral-length v) (width-most v)),
+      )
       (numeral-value v (omega arith))
 
   found-good : itemGood key mark here ≡ true
@@ -55,7 +61,8 @@ module _ (key : List ℕ) (v mark : ℕ) (rest : List ℕ) (no-digit : isDigit m
   item-found = (found-good, found-value, found-rest)
 
 pub line-found : (key : List ℕ) (v : ℕ) (rest : List ℕ) → v ≤ greatest-value
-    → (lineGood key (line key v ++ rest) ≡ true) × (lineValue key (line key v ++ rest) ≡ v) × (lineRest key (line key v ++ rest) ≡ rest)
+    → (lineGood key (line key v ++ rest) ≡ true) × (lineValue key (line key v ++ rest) ≡ v)
+    × (lineRest key (line key v ++ rest) ≡ rest)
 unfolding line
 line-found key v rest = item-found key v line-feed rest refl
 
@@ -82,7 +89,13 @@ pub record BeginsItem (key : List ℕ) (mark : ℕ) (text : List ℕ) : Type 0 w
 pub item-iff : (key : List ℕ) (mark : ℕ) (text : List ℕ) → isDigit mark ≡ false
     → (itemGood key mark text ≡ true) ↔ BeginsItem key mark text
 item-iff key mark text no-digit = (
-  λ e. record { value = itemValue key text; rest = itemRest key mark text; small = item-stands key mark text e .0; so = item-stands key mark text e .1 },
+  λ e. record {
+    value = itemValue key text;
+    rest = itemRest key mark text;
+    small = item-stands key mark text e .0;
+    so =
+        item-stands key mark text e .1;
+  },
   λ b. ap (itemGood key mark) (b .so) ∙ found-good key (b .value) mark (b .rest) no-digit (b .small),
 )
 

@@ -31,12 +31,14 @@ digits-join (x ∷ xs) ys p q = (p .0, p .1, digits-join xs ys (p .2) q)
 pub last-length : (k v : ℕ) → length (lastDigits k v) ≡ k
 unfolding lastDigits
 last-length zero v = refl
-last-length (suc k) v = length-append (lastDigits k (v / 10)) ((48 + v % 10) ∷ []) ∙ omega (arith, last-length k (v / 10))
+last-length (suc k) v =
+    length-append (lastDigits k (v / 10)) ((48 + v % 10) ∷ []) ∙ omega (arith, last-length k (v / 10))
 
 last-digits : (k v : ℕ) → Digits (lastDigits k v)
 unfolding lastDigits
 last-digits zero v = tt
-last-digits (suc k) v = digits-join (lastDigits k (v / 10)) ((48 + v % 10) ∷ []) (last-digits k (v / 10)) (omega arith, omega arith, tt)
+last-digits (suc k) v =
+    digits-join (lastDigits k (v / 10)) ((48 + v % 10) ∷ []) (last-digits k (v / 10)) (omega arith, omega arith, tt)
 
 pub extended-join : (v : ℕ) (xs ys : List ℕ) → extended v (xs ++ ys) ≡ extended (extended v xs) ys
 unfolding extended
@@ -51,7 +53,8 @@ Few (suc k) v = Few k (v / 10)
 last-value : (k v : ℕ) → Few k v → extended 0 (lastDigits k v) ≡ v
 unfolding lastDigits extended
 last-value zero v h = sym h
-last-value (suc k) v h = extended-join 0 (lastDigits k (v / 10)) ((48 + v % 10) ∷ []) ∙ omega (arith, last-value k (v / 10) h)
+last-value (suc k) v h =
+    extended-join 0 (lastDigits k (v / 10)) ((48 + v % 10) ∷ []) ∙ omega (arith, last-value k (v / 10) h)
 
 -- the last digits of a number that digits extend are those digits
 last-again : (ds : List ℕ) (j v n : ℕ) → n ≡ length ds + j → Digits ds
@@ -142,7 +145,8 @@ unfolding digitsAt
 digits-read zero [] mark r n p h = refl
 digits-read zero (d ∷ ds) mark r n p h = absurd (not-suc-le-zero h)
 digits-read (suc k) [] mark r n p h = rw n
-digits-read (suc k) (d ∷ ds) mark r n p h = rw (le-leb 48 d (p .0), le-leb d 57 (p .1), digits-read k ds mark r n (p .2) (le-of-suc-le-suc h))
+digits-read (suc k) (d ∷ ds) mark r n p h =
+    rw (le-leb 48 d (p .0), le-leb d 57 (p .1), digits-read k ds mark r n (p .2) (le-of-suc-le-suc h))
 
 pub digits-are : (k : ℕ) (bytes : List ℕ) → Digits (digitsAt k bytes)
 unfolding digitsAt

@@ -20,9 +20,11 @@ pub record Putting (area₀ : List ℕ) (from : ℕ) (whole area : List ℕ) (at
 
 pub begun : (area₀ : List ℕ) (from : ℕ) (whole rest : List ℕ) → Room area₀ from whole → whole ≡ rest
     → Putting area₀ from whole area₀ from rest
-begun area₀ from whole rest room e = record { front = []; room = room; parts = sym e; place = omega arith; so = pasted-none area₀ from }
+begun area₀ from whole rest room e =
+    record { front = []; room = room; parts = sym e; place = omega arith; so = pasted-none area₀ from }
 
-module _ {area₀ : List ℕ} {from : ℕ} {whole area : List ℕ} {at : ℕ} {rest : List ℕ} (k : Putting area₀ from whole area at rest) where
+module _ {area₀ : List ℕ} {from : ℕ} {whole area : List ℕ} {at : ℕ} {rest : List ℕ}
+    (k : Putting area₀ from whole area at rest) where
   front-fits : from + length (k .front) ≤ length area₀
   front-fits = omega (arith, ap length (sym (k .parts)), length-append (k .front) rest, k .room)
 

@@ -2,7 +2,8 @@
 --     enough                    more bytes than the lines of a text of at most 512 rows can take
 --     rest-changes-nothing      a text of so many bytes reads alike, whatever follows it
 --     rest-reads-nothing        and gives the same rows, which are none
--- An item is judged by its key and six bytes: the right lines before a wrong one take no more than theirs, and enough is left for it.
+-- An item is judged by its key and six bytes: the right lines before a wrong one take no more than theirs, and enough
+-- is left for it.
 -- Assumes nothing.
 use mathlib.Core.Path.{_≡_, refl, _∙_, ap, sym}
 use mathlib.Core.Bool.{Bool, true, false, cond, _&&_}
@@ -17,7 +18,9 @@ use lib.Seq.{drop-append-le}
 use Rattle.table.specs.Table.{most-rows}
 use Rattle.text.specs.declared.Reading.{Reading}
 use Rattle.text.specs.declared.Reading.the-variants.{Read, Refused}
-use Rattle.text.specs.Text.{line-feed, nodes-key, rows-key, row-keys, item, starts, isDigit, digitsAt, itemValue, itemGood, itemRest, lineRest, wrongLine, rowsKeys, nodesIn, rowsIn, bodyOf, readingOfRows, readingOfBody, readingOf, rowsRead}
+use Rattle.text.specs.Text.{line-feed, nodes-key, rows-key, row-keys, item, starts, isDigit, digitsAt, itemValue}
+use Rattle.text.specs.Text.{itemGood, itemRest, lineRest, wrongLine, rowsKeys, nodesIn, rowsIn, bodyOf}
+use Rattle.text.specs.Text.{readingOfRows, readingOfBody, readingOf, rowsRead}
 use Rattle.text.proofs.Lengths.{item-most, bytesOf, row-bytes}
 use Rattle.text.proofs.FirstWrong.{keysOf}
 use Rattle.text.proofs.RoundTrip.{write-back, read-fits, longest-text}
@@ -33,14 +36,16 @@ digits-rest : (k : ℕ) (text more : List ℕ) → k ≤ length text → digitsA
 unfolding digitsAt
 digits-rest zero text more h = refl
 digits-rest (suc k) [] more h = absurd (not-suc-le-zero h)
-digits-rest (suc k) (b ∷ bs) more h = ap (λ (ds : List ℕ). cond (isDigit b) (b ∷ ds) []) (digits-rest k bs more (le-of-suc-le-suc h))
+digits-rest (suc k) (b ∷ bs) more h =
+    ap (λ (ds : List ℕ). cond (isDigit b) (b ∷ ds) []) (digits-rest k bs more (le-of-suc-le-suc h))
 
 -- An item of a text that has its key and six bytes.
 module _ (key : List ℕ) (mark : ℕ) (text more : List ℕ) (long : length key + 6 ≤ length text) where
   pub value-rest : itemValue key (text ++ more) ≡ itemValue key text
   unfolding itemValue
   value-rest =
-      let behind : drop (length key) (text ++ more) ≡ drop (length key) text ++ more = drop-append-le (length key) text more (omega arith) in
+      let behind : drop (length key) (text ++ more) ≡ drop (length key) text ++ more =
+      drop-append-le (length key) text more (omega arith) in
       rw (behind, digits-rest 5 (drop (length key) text) more (omega (arith, length-drop (length key) text)))
 
   here-fits : length (item key (itemValue key text) mark) ≤ length text
@@ -66,7 +71,10 @@ wrong-rest : (keys : List (List ℕ)) (text more : List ℕ) (l : ℕ) → bytes
     → wrongLine keys (text ++ more) l ≡ wrongLine keys text l
 unfolding wrongLine bytesOf
 wrong-rest [] text more l h =
-    rw (ne-eqb (length (text ++ more)) 0 (λ e. omega (arith, length-append text more)), ne-eqb (length text) 0 (λ e. omega arith))
+    rw (
+      ne-eqb (length (text ++ more)) 0 (λ e. omega (arith, length-append text more)),
+      ne-eqb (length text) 0 (λ e. omega arith),
+    )
 wrong-rest (k ∷ ks) text more l h =
     let on = wrong-rest ks (lineRest k text) more (suc l) (omega (arith, rest-long k line-feed text)) in
     rw (good-rest k line-feed text more (omega arith), rest-rest k line-feed text more (omega arith), on)
@@ -133,4 +141,5 @@ module _ (text more : List ℕ) (lent : ℕ) (long : enough ≤ length text) whe
       go (Read h) e =
           let most = longest-text (h .nodes) (rowsRead text lent) (read-fits text lent h e .few) in
           absurd (omega (arith, most, ap length (write-back text lent h e), enough-is))
-      go (Refused x) e = none-read (text ++ more) lent x (sym (rest-changes-nothing ∙ e)) ∙ sym (none-read text lent x (sym e))
+      go (Refused x) e =
+          none-read (text ++ more) lent x (sym (rest-changes-nothing ∙ e)) ∙ sym (none-read text lent x (sym e))

@@ -19,7 +19,10 @@ use Rattle.table.specs.declared.Row.{Row}
 use Rattle.table.specs.declared.Refusal.{Refusal}
 use Rattle.text.specs.declared.Header.{Header}
 use Rattle.text.specs.declared.Reading.the-variants.{Read, Refused}
-use Rattle.text.specs.Text.{nodes-key, rows-key, width, line, rowText, rowsText, textOf, row-keys, RowsFit, TableFits, lineValue, lineGood, lineRest, behindLines, wrongLine, rowsKeys, rowAt, rowsAt, nodesIn, rowsIn, bodyOf, readingOfRows, readingOfBody, readingOf, rowsRead, areaAfter}
+use Rattle.text.specs.Text.{nodes-key, rows-key, width, line, rowText, rowsText, textOf, row-keys, RowsFit}
+use Rattle.text.specs.Text.{TableFits, lineValue, lineGood, lineRest, behindLines, wrongLine, rowsKeys, rowAt}
+use Rattle.text.specs.Text.{rowsAt, nodesIn, rowsIn, bodyOf, readingOfRows, readingOfBody, readingOf, rowsRead}
+use Rattle.text.specs.Text.{areaAfter}
 use Rattle.text.proofs.Lines.{line-length, line-found, line-stands}
 use Rattle.text.proofs.RowLaws.{right-on, none-wrong, row-stands, row-fits, row-found}
 use Rattle.text.proofs.Lengths.{line-most, rows-long}
@@ -31,8 +34,11 @@ unfolding rowsText rowsKeys wrongLine rowsAt
 rows-back [] l f = (refl, refl)
 rows-back (r ∷ rs) l f =
     let found = row-found r (rowsText rs) (f .0) in
-    let rest = rows-back rs (l + length row-keys) (f .1) in
-    (right-on row-keys (rowsKeys (length rs)) (rowText r ++ rowsText rs) l (found .right) ∙ rw (found .past) (rest .0), rw (found .row, found .past, rest .1))
+    let rest = rows-back rs (l + length row-keys) (f .1) in (
+      right-on row-keys (rowsKeys (length rs)) (rowText r ++ rowsText rs) l (found .right)
+          ∙ rw (found .past) (rest .0),
+      rw (found .row, found .past, rest .1),
+    )
 
 module _ (n : ℕ) (rows : List Row) (lent : ℕ) (fits : TableFits n rows lent) where
   small-count : length rows ≤ 65535
@@ -46,7 +52,17 @@ module _ (n : ℕ) (rows : List Row) (lent : ℕ) (fits : TableFits n rows lent)
   reading-is =
       let one = line-found nodes-key n lines (fits .nodes-fit) in
       let two = line-found rows-key (length rows) (rowsText rows) small-count in
-      rw (one .0, one .1, one .2, two .0, two .1, two .2, le-ltb 512 (length rows) (fits .few), le-ltb lent (length rows) (fits .room), rows-back rows 3 (fits .rows-fit) .0)
+      rw (
+        one .0,
+        one .1,
+        one .2,
+        two .0,
+        two .1,
+        two .2,
+        le-ltb 512 (length rows) (fits .few),
+        le-ltb lent (length rows) (fits .room),
+        rows-back rows 3 (fits .rows-fit) .0,
+      )
 
   rows-are : rowsRead (textOf n rows) lent ≡ rows
   unfolding rowsRead bodyOf textOf
@@ -55,7 +71,8 @@ module _ (n : ℕ) (rows : List Row) (lent : ℕ) (fits : TableFits n rows lent)
       let two = line-found rows-key (length rows) (rowsText rows) small-count in
       rw (reading-is, one .2, two .2) (rows-back rows 3 (fits .rows-fit) .1)
 
-  pub read-back : (readingOf (textOf n rows) lent ≡ Read (record { nodes = n; rows = length rows })) × (rowsRead (textOf n rows) lent ≡ rows)
+  pub read-back : (readingOf (textOf n rows) lent ≡ Read (record { nodes = n; rows = length rows }))
+      × (rowsRead (textOf n rows) lent ≡ rows)
   read-back = (reading-is, rows-are)
 
 -- Where nothing is wrong with the lines of n rows, they are the lines of the rows that they say, and nothing follows.
@@ -70,8 +87,11 @@ rows-again zero (b ∷ bs) l h e = absurd (omega (arith, last e))
 rows-again (suc n) text l h e =
     let right = none-wrong row-keys (rowsKeys n) text l h e in
     let on = sym (right-on row-keys (rowsKeys n) text l right) ∙ e in
-    let rest = rows-again n (behindLines row-keys text) (l + length row-keys) (omega arith) on in
-    (row-stands text right ∙ ap (λ (t : List ℕ). rowText (rowAt text) ++ t) (rest .0), ap suc (rest .1), (row-fits text right, rest .2))
+    let rest = rows-again n (behindLines row-keys text) (l + length row-keys) (omega arith) on in (
+      row-stands text right ∙ ap (λ (t : List ℕ). rowText (rowAt text) ++ t) (rest .0),
+      ap suc (rest .1),
+      (row-fits text right, rest .2),
+    )
 
 -- What an accepted reading says of its text.
 record Accepted (text : List ℕ) (lent : ℕ) (h : Header) : Type 0 where
@@ -88,7 +108,8 @@ refused-not r h e = let z : _≡_ {A = ℕ} 0 1 = cc in omega arith
 accepted : (text : List ℕ) (lent : ℕ) (h : Header) → readingOf text lent ≡ Read h → Accepted text lent h
 unfolding readingOf readingOfBody readingOfRows
 accepted text lent h e =
-    go (lineGood nodes-key text) (lineGood rows-key (lineRest nodes-key text)) (ltb 512 (rowsIn text)) (ltb lent (rowsIn text)) (eqb wrong 0) refl refl refl refl refl e
+    go (lineGood nodes-key text) (lineGood rows-key (lineRest nodes-key text)) (ltb 512 (rowsIn text))
+    (ltb lent (rowsIn text)) (eqb wrong 0) refl refl refl refl refl e
   where
     wrong : ℕ
     wrong = wrongLine (rowsKeys (rowsIn text)) (bodyOf text) 3
@@ -98,7 +119,9 @@ accepted text lent h e =
 
     go : (a b c d f : Bool) → lineGood nodes-key text ≡ a → lineGood rows-key (lineRest nodes-key text) ≡ b
         → ltb 512 (rowsIn text) ≡ c → ltb lent (rowsIn text) ≡ d → eqb wrong 0 ≡ f
-        → cond a (cond b (cond c (Refused (refuse 2 0 0)) (cond d (Refused (refuse 21 0 0)) (cond f (Read found) (Refused (refuse 20 wrong 0))))) (Refused (refuse 20 2 0))) (Refused (refuse 20 1 0)) ≡ Read h
+        → cond a (cond b (cond c (Refused (refuse 2 0 0)) (cond d (Refused (refuse 21 0 0))
+        (cond f (Read found) (Refused (refuse 20 wrong 0))))) (Refused (refuse 20 2 0)))
+        (Refused (refuse 20 1 0)) ≡ Read h
         → Accepted text lent h
     go false b c d f p q r s t e = absurd (refused-not _ h e)
     go true false c d f p q r s t e = absurd (refused-not _ h e)
@@ -106,13 +129,22 @@ accepted text lent h e =
     go true true false true f p q r s t e = absurd (refused-not _ h e)
     go true true false false false p q r s t e = absurd (refused-not _ h e)
     go true true false false true p q r s t e =
-        record { first = p; second = q; few = ltb-false 512 (rowsIn text) r; room = ltb-false lent (rowsIn text) s; right = eqb-true wrong 0 t; head = cc }
+        record {
+          first = p;
+          second = q;
+          few = ltb-false 512 (rowsIn text) r;
+          room =
+              ltb-false lent (rowsIn text) s;
+          right = eqb-true wrong 0 t;
+          head = cc;
+        }
 
 module _ (text : List ℕ) (lent : ℕ) (h : Header) (e : readingOf text lent ≡ Read h) where
   said : Accepted text lent h
   said = accepted text lent h e
 
-  again : (bodyOf text ≡ rowsText (rowsAt (rowsIn text) (bodyOf text))) × (length (rowsAt (rowsIn text) (bodyOf text)) ≡ rowsIn text) × RowsFit (rowsAt (rowsIn text) (bodyOf text))
+  again : (bodyOf text ≡ rowsText (rowsAt (rowsIn text) (bodyOf text)))
+      × (length (rowsAt (rowsIn text) (bodyOf text)) ≡ rowsIn text) × RowsFit (rowsAt (rowsIn text) (bodyOf text))
   again = rows-again (rowsIn text) (bodyOf text) 3 (omega arith) (said .right)
 
   nodes-are : h .nodes ≡ nodesIn text
@@ -125,7 +157,9 @@ module _ (text : List ℕ) (lent : ℕ) (h : Header) (e : readingOf text lent �
   text-stands : text ≡ line nodes-key (nodesIn text) ++ (line rows-key (rowsIn text) ++ bodyOf text)
   unfolding nodesIn rowsIn bodyOf
   text-stands =
-      line-stands nodes-key text (said .first) .1 ∙ ap (λ (t : List ℕ). line nodes-key (lineValue nodes-key text) ++ t) (line-stands rows-key (lineRest nodes-key text) (said .second) .1)
+      line-stands nodes-key text (said .first) .1
+      ∙ ap (λ (t : List ℕ). line nodes-key (lineValue nodes-key text) ++ t)
+      (line-stands rows-key (lineRest nodes-key text) (said .second) .1)
 
   pub write-back : text ≡ textOf (h .nodes) (rowsRead text lent)
   unfolding textOf
@@ -137,7 +171,14 @@ module _ (text : List ℕ) (lent : ℕ) (h : Header) (e : readingOf text lent �
   pub read-fits : TableFits (h .nodes) (rowsRead text lent) lent
   unfolding nodesIn
   read-fits =
-      record { nodes-fit = rw nodes-are (line-stands nodes-key text (said .first) .0); rows-fit = rw rows-said (again .2); few = rw (rows-said, again .1) (said .few); room = rw (rows-said, again .1) (said .room) }
+      record {
+        nodes-fit = rw nodes-are (line-stands nodes-key text (said .first) .0);
+        rows-fit =
+            rw rows-said (again .2);
+        few = rw (rows-said, again .1) (said .few);
+        room =
+            rw (rows-said, again .1) (said .room);
+      }
 
 -- A text is read: there is a head that its reading gives.
 pub record IsRead (text : List ℕ) (lent : ℕ) : Type 0 where
@@ -153,15 +194,29 @@ pub record IsText (text : List ℕ) (lent : ℕ) : Type 0 where
 
 pub read-iff-text : (text : List ℕ) (lent : ℕ) → IsRead text lent ↔ IsText text lent
 read-iff-text text lent = (
-  λ r. record { nodes = r .head .nodes; rows = rowsRead text lent; fits = read-fits text lent (r .head) (r .so); so = write-back text lent (r .head) (r .so) },
-  λ t. record { head = record { nodes = t .nodes; rows = length (t .rows) }; so = ap (λ (b : List ℕ). readingOf b lent) (t .so) ∙ read-back (t .nodes) (t .rows) lent (t .fits) .0 },
+  λ r. record {
+    nodes = r .head .nodes;
+    rows = rowsRead text lent;
+    fits = read-fits text lent (r .head) (r .so);
+    so =
+        write-back text lent (r .head) (r .so);
+  },
+  λ t. record {
+    head = record { nodes = t .nodes; rows = length (t .rows) };
+    so =
+        ap (λ (b : List ℕ). readingOf b lent) (t .so) ∙ read-back (t .nodes) (t .rows) lent (t .fits) .0;
+  },
 )
 
 pub written-again : (text : List ℕ) (lent : ℕ) (h : Header) (area : List ℕ) → readingOf text lent ≡ Read h
     → length text ≤ length area → areaAfter (h .nodes) (rowsRead text lent) area ≡ text ++ drop (length text) area
 unfolding areaAfter
 written-again text lent h area e room =
-    rw (← write-back text lent h e, le-ltb 512 (length (rowsRead text lent)) (read-fits text lent h e .few), le-ltb (length area) (length text) room)
+    rw (
+      ← write-back text lent h e,
+      le-ltb 512 (length (rowsRead text lent)) (read-fits text lent h e .few),
+      le-ltb (length area) (length text) room,
+    )
 
 count-width : (k : ℕ) → k ≤ 512 → width k ≤ 3
 unfolding width
@@ -175,4 +230,10 @@ count-width k h = go (ltb k 10) (ltb k 100)
 pub longest-text : (n : ℕ) (rows : List Row) → length rows ≤ 512 → length (textOf n rows) ≤ 15381
 unfolding textOf
 longest-text n rows few =
-    simp length-append (omega (arith, line-most nodes-key n, line-length rows-key (length rows), count-width (length rows) few, rows-long rows))
+    simp length-append (omega (
+      arith,
+      line-most nodes-key n,
+      line-length rows-key (length rows),
+      count-width (length rows) few,
+      rows-long rows,
+    ))

@@ -15,7 +15,8 @@ use native.Mathlib.Omega.{arith}
 use lib.ListN.{length}
 use Rattle.lists.proofs.Build.{build-of}
 use Rattle.table.specs.declared.Row.{Row}
-use Rattle.text.specs.Text.{line, row-keys, values, rowBy, linesText, rowText, ValuesFit, lineGood, lineValue, lineRest, valuesAt, behindLines, wrongLine, rowAt}
+use Rattle.text.specs.Text.{line, row-keys, values, rowBy, linesText, rowText, ValuesFit, lineGood, lineValue}
+use Rattle.text.specs.Text.{lineRest, valuesAt, behindLines, wrongLine, rowAt}
 use Rattle.text.proofs.Lines.{line-stands, line-found}
 
 -- all of the lines of some keys are exactly so
@@ -29,13 +30,15 @@ unfolding wrongLine behindLines
 right-on [] more text l g = let none : l ≡ l + 0 = omega arith in ap (wrongLine more text) none
 right-on (k ∷ ks) more text l g =
     let next : suc l + length ks ≡ l + suc (length ks) = omega arith in
-    rw (g .0) (right-on ks more (lineRest k text) (suc l) (g .1) ∙ ap (wrongLine more (behindLines ks (lineRest k text))) next)
+    rw (g .0) (right-on ks more (lineRest k text) (suc l) (g .1)
+    ∙ ap (wrongLine more (behindLines ks (lineRest k text))) next)
 
 pub none-wrong : (keys more : List (List ℕ)) (text : List ℕ) (l : ℕ) → 0 < l → wrongLine (keys ++ more) text l ≡ 0
     → Right keys text
 unfolding wrongLine
 none-wrong [] more text l h e = tt
-none-wrong (k ∷ ks) more text l h e = go (lineGood k text) refl e (none-wrong ks more (lineRest k text) (suc l) (omega arith))
+none-wrong (k ∷ ks) more text l h e =
+    go (lineGood k text) refl e (none-wrong ks more (lineRest k text) (suc l) (omega arith))
   where
     go : (b : Bool) → lineGood k text ≡ b → cond b (wrongLine (ks ++ more) (lineRest k text) (suc l)) l ≡ 0
         → (wrongLine (ks ++ more) (lineRest k text) (suc l) ≡ 0 → Right ks (lineRest k text)) → Right (k ∷ ks) text
@@ -55,7 +58,8 @@ lines-stand (k ∷ ks) text g =
     let here = line k (lineValue k text) in
     let rest = lineRest k text in
     let more = linesText ks (valuesAt ks rest) in
-    line-stands k text (g .0) .1 ∙ ap (λ (t : List ℕ). here ++ t) (lines-stand ks rest (g .1)) ∙ sym (append-assoc here more (behindLines ks rest))
+    line-stands k text (g .0) .1 ∙ ap (λ (t : List ℕ). here ++ t) (lines-stand ks rest (g .1))
+    ∙ sym (append-assoc here more (behindLines ks rest))
 
 pub lines-fit : (keys : List (List ℕ)) (text : List ℕ) → Right keys text → ValuesFit (valuesAt keys text)
 unfolding valuesAt
@@ -103,7 +107,8 @@ row-stands text g =
 
 pub row-fits : (text : List ℕ) → Right row-keys text → ValuesFit (values (rowAt text))
 unfolding rowAt
-row-fits text g = subst ValuesFit (sym (values-back (valuesAt row-keys text) (values-many row-keys text))) (lines-fit row-keys text g)
+row-fits text g =
+    subst ValuesFit (sym (values-back (valuesAt row-keys text) (values-many row-keys text))) (lines-fit row-keys text g)
 
 -- a text that begins with a row's lines is seen to, with that row and the rest
 pub record RowFound (r : Row) (rest text : List ℕ) : Type 0 where

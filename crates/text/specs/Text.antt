@@ -62,7 +62,8 @@ item key v mark = key ++ (numeral v ++ (mark ∷ []))
 unfoldable pub line : (key : List ℕ) → ℕ → List ℕ
 line key v = item key v line-feed
 
--- The keys of a row's lines, in their order: a new line of a row joins here, and its value in the two definitions below.
+-- The keys of a row's lines, in their order: a new line of a row joins here, and its value in the two definitions
+-- below.
 unfoldable pub row-keys : List (List ℕ)
 row-keys = src-key ∷ dst-key ∷ due-key ∷ []
 
@@ -133,7 +134,8 @@ extended v (d ∷ ds) = extended (v * 10 + (d - digit-zero)) ds
 unfoldable pub itemValue : (key text : List ℕ) → ℕ
 itemValue key text = extended 0 (digitsAt 5 (drop (length key) text))
 
--- Whether a number behind a key stands at the front, up to its mark, exactly so: it is at most 65,535, and the item of that number stands there, byte by byte.
+-- Whether a number behind a key stands at the front, up to its mark, exactly so: it is at most 65,535, and the item of
+-- that number stands there, byte by byte.
 unfoldable pub itemGood : (key : List ℕ) (mark : ℕ) (text : List ℕ) → Bool
 itemGood key mark text =
     let v = itemValue key text in leb v greatest-value && starts (item key v mark) text
@@ -142,7 +144,8 @@ itemGood key mark text =
 unfoldable pub itemRest : (key : List ℕ) (mark : ℕ) (text : List ℕ) → List ℕ
 itemRest key mark text = drop (length (item key (itemValue key text) mark)) text
 
--- A line is an item whose mark is a line feed: what the first line says, whether it is exactly so, and the text behind it.
+-- A line is an item whose mark is a line feed: what the first line says, whether it is exactly so, and the text behind
+-- it.
 abbrev pub lineValue : (key text : List ℕ) → ℕ
 lineValue key text = itemValue key text
 
@@ -162,7 +165,8 @@ unfoldable pub behindLines : (keys : List (List ℕ)) (text : List ℕ) → List
 behindLines [] text = text
 behindLines (k ∷ ks) text = behindLines ks (lineRest k text)
 
--- The first wrong line of the lines of some keys, the next of which has number l; bytes behind the last are a wrong line; 0 where none is.
+-- The first wrong line of the lines of some keys, the next of which has number l; bytes behind the last are a wrong
+-- line; 0 where none is.
 unfoldable pub wrongLine : (keys : List (List ℕ)) (text : List ℕ) (l : ℕ) → ℕ
 wrongLine [] text l = cond (eqb (length text) 0) 0 l
 wrongLine (k ∷ ks) text l = cond (lineGood k text) (wrongLine ks (lineRest k text) (suc l)) l
@@ -218,14 +222,16 @@ filled (Refused r) = 0
 unfoldable pub rowsRead : (text : List ℕ) (lent : ℕ) → List Row
 rowsRead text lent = rowsAt (filled (readingOf text lent)) (bodyOf text)
 
--- A text was read, where so many records are lent: the reading, the number of its rows, and the rows by columns, with zeros behind them.
+-- A text was read, where so many records are lent: the reading, the number of its rows, and the rows by columns, with
+-- zeros behind them.
 pub record TextParsed (text : List ℕ) (lent : ℕ) (p : Parsed) : Type 0 where
   pub judged : p .reading ≡ readingOf text lent
   pub counted : p .rows ≡ length (rowsRead text lent)
   pub held : p .columns ≡ columns (rowsRead text lent)
   pub rows : listed (p .rows) (p .columns) ≡ rowsRead text lent
 
--- What writing a table into an area of so many bytes comes to: 2 for more than 512 rows, then 22 if the area is too short, and else the length.
+-- What writing a table into an area of so many bytes comes to: 2 for more than 512 rows, then 22 if the area is too
+-- short, and else the length.
 unfoldable pub writingOf : (nodes : ℕ) (rows : List Row) (room : ℕ) → Writing
 writingOf n rows room =
     cond (ltb most-rows (length rows)) (NotWritten (refuse 2 0 0))
@@ -237,7 +243,8 @@ areaAfter n rows area =
     cond (ltb most-rows (length rows)) area
     (cond (ltb (length area) (length (textOf n rows))) area (textOf n rows ++ drop (length (textOf n rows)) area))
 
--- The number of document 01 for each answer, 0 where there is no refusal, and the line that it names, 0 where it names none.
+-- The number of document 01 for each answer, 0 where there is no refusal, and the line that it names, 0 where it names
+-- none.
 abbrev pub numberOfReading : Reading → ℕ
 numberOfReading (Read h) = 0
 numberOfReading (Refused r) = r .number
@@ -250,7 +257,8 @@ abbrev pub numberOfWriting : Writing → ℕ
 numberOfWriting (Written n) = 0
 numberOfWriting (NotWritten r) = r .number
 
--- What `read` promises, where those rows are lent: the answer is the reading, the rows that it gives fill the front of the list, and the rest is as it was. A refused reading gives no rows.
+-- What `read` promises, where those rows are lent: the answer is the reading, the rows that it gives fill the front of
+-- the list, and the rest is as it was. A refused reading gives no rows.
 pub record TextTaken (text : List ℕ) (rows : List Row) (answer : Reading) (rows′ : List Row) : Type 0 where
   pub answers : answer ≡ readingOf text (length rows)
   pub fills : rows′ ≡ rowsRead text (length rows) ++ drop (length (rowsRead text (length rows))) rows

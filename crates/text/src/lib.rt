@@ -1,4 +1,5 @@
-// The table as text: what reading and writing come to, the lines of a row by their keys, and bytes written at a place of an area.
+// The table as text: what reading and writing come to, the lines of a row by their keys, and bytes written at a place
+// of an area.
 ghost use mathlib.Core.Path.{_≡_};
 ghost use mathlib.Core.List.{[]};
 ghost use Prim.Native.Nat.{_+_, _%_, _≤_, _<_};
@@ -125,7 +126,8 @@ fn digit(v: u16, behind: usize) -> u8
 // Copies bytes to a place, and returns the place behind them.
 pub fn put_bytes(area: &mut [u8], at: usize, bytes: &[u8]) -> usize
     requires { ⌜ at + length (now bytes) ≤ length (now area) ⌝ }
-    ensures { λ r. ⌜ (r ≡ at + length (now (bytes .entry))) × (now (area .exit) ≡ pasted (now (area .entry)) at (now (bytes .entry))) ⌝ }
+    ensures { λ r. ⌜ (r ≡ at + length (now (bytes .entry)))
+        × (now (area .exit) ≡ pasted (now (area .entry)) at (now (bytes .entry))) ⌝ }
 {
     let n = bytes.len();
     let mut j = 0;
@@ -153,7 +155,8 @@ pub fn put_numeral(area: &mut [u8], at: usize, v: u16) -> usize
 // Writes a number behind a key, and a mark, at a place, and returns the place behind them.
 pub fn put_item(area: &mut [u8], at: usize, key: &[u8], v: u16, mark: u8) -> usize
     requires { ⌜ (at + length (item (now key) v mark) ≤ length (now area)) × (length (now key) ≤ 16) ⌝ }
-    ensures { λ r. ⌜ (r ≡ at + length (item (now (key .entry)) v mark)) × (now (area .exit) ≡ pasted (now (area .entry)) at (item (now (key .entry)) v mark)) ⌝ }
+    ensures { λ r. ⌜ (r ≡ at + length (item (now (key .entry)) v mark))
+        × (now (area .exit) ≡ pasted (now (area .entry)) at (item (now (key .entry)) v mark)) ⌝ }
 {
     let from = put_bytes(area, at, key);
     let end = put_numeral(area, from, v);
@@ -164,7 +167,8 @@ pub fn put_item(area: &mut [u8], at: usize, key: &[u8], v: u16, mark: u8) -> usi
 // Writes a line at a place, and returns the place behind it.
 pub fn put_line(area: &mut [u8], at: usize, key: &[u8], v: u16) -> usize
     requires { ⌜ (at + length (line (now key) v) ≤ length (now area)) × (length (now key) ≤ 16) ⌝ }
-    ensures { λ r. ⌜ (r ≡ at + length (line (now (key .entry)) v)) × (now (area .exit) ≡ pasted (now (area .entry)) at (line (now (key .entry)) v)) ⌝ }
+    ensures { λ r. ⌜ (r ≡ at + length (line (now (key .entry)) v))
+        × (now (area .exit) ≡ pasted (now (area .entry)) at (line (now (key .entry)) v)) ⌝ }
 {
     put_item(area, at, key, v, 10)
 }

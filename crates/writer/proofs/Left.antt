@@ -22,7 +22,8 @@ use Rattle.text.proofs.Lengths.{bytesOf, row-bytes, lines-most, rows-long}
 use Rattle.text.proofs.Putting.{Putting, begun, fits, put-on, one-put, all-put}
 
 pub lines-next : (keys : List (List ℕ)) (vs : List ℕ) (j : ℕ) → length vs ≡ length keys → j < length keys
-    → linesText (drop j keys) (drop j vs) ≡ line (getD keys j []) (getD vs j 0) ++ linesText (drop (j + 1) keys) (drop (j + 1) vs)
+    → linesText (drop j keys) (drop j vs) ≡ line (getD keys j []) (getD vs j 0) ++ linesText (drop (j + 1) keys)
+    (drop (j + 1) vs)
 unfolding linesText
 lines-next keys vs j e h = rw (add-one, drop-cons keys j [] h, drop-cons vs j 0 (omega arith))
 

@@ -21,7 +21,8 @@ module _ (n rows : ℕ) (c : Columns) (area : List ℕ) where
   abbrev table : List Row
   table = listed rows c
 
-  pub many-rows : 512 < rows → (NotWritten (refuse 2 0 0) ≡ writingOf n table (length area)) × (area ≡ areaAfter n table area)
+  pub many-rows : 512 < rows → (NotWritten (refuse 2 0 0) ≡ writingOf n table (length area))
+      × (area ≡ areaAfter n table area)
   unfolding writingOf areaAfter
   many-rows h = rw (length-listed rows c, lt-ltb 512 rows h) (refl, refl)
 
@@ -29,22 +30,30 @@ module _ (n rows : ℕ) (c : Columns) (area : List ℕ) where
   unfolding textOf
   text-is = rw (length-listed rows c)
 
-  pub text-length : length (textOf n table) ≡ length (line nodes-key n) + length (line rows-key rows) + length (rowsText table)
+  pub text-length : length (textOf n table) ≡ length (line nodes-key n) + length (line rows-key rows) + length
+      (rowsText table)
   text-length = ap length text-is ∙ simp length-append (omega arith)
 
   pub text-most : rows ≤ 512 → length (line nodes-key n) + length (line rows-key rows) + length (rowsText table) ≤ 15383
   text-most h = omega (arith, line-most nodes-key n, line-most rows-key rows, rows-most rows c)
 
   module _ (few : rows ≤ 512) where
-    pub no-room : length area < length (textOf n table) → (NotWritten (refuse 22 0 0) ≡ writingOf n table (length area)) × (area ≡ areaAfter n table area)
+    pub no-room : length area < length (textOf n table) → (NotWritten (refuse 22 0 0) ≡ writingOf n table (length area))
+        × (area ≡ areaAfter n table area)
     unfolding writingOf areaAfter
-    no-room h = rw (length-listed rows c, le-ltb 512 rows few, lt-ltb (length area) (length (textOf n table)) h) (refl, refl)
+    no-room h =
+        rw (length-listed rows c, le-ltb 512 rows few, lt-ltb (length area) (length (textOf n table)) h) (refl, refl)
 
-    pub room : length (textOf n table) ≤ length area → (Written (length (textOf n table)) ≡ writingOf n table (length area)) × (textOf n table ++ drop (length (textOf n table)) area ≡ areaAfter n table area)
+    pub room : length (textOf n table) ≤ length area
+        → (Written (length (textOf n table)) ≡ writingOf n table (length area))
+        × (textOf n table ++ drop (length (textOf n table)) area ≡ areaAfter n table area)
     unfolding writingOf areaAfter
-    room h = rw (length-listed rows c, le-ltb 512 rows few, le-ltb (length area) (length (textOf n table)) h) (refl, refl)
+    room h =
+        rw (length-listed rows c, le-ltb 512 rows few, le-ltb (length area) (length (textOf n table)) h) (refl, refl)
 
-    pub pasted-text : pasted area 0 (line nodes-key n ++ (line rows-key rows ++ rowsText table)) ≡ textOf n table ++ drop (length (textOf n table)) area
+    pub pasted-text : pasted area 0
+        (line nodes-key n ++ (line rows-key rows ++ rowsText table)) ≡ textOf n table ++ drop
+        (length (textOf n table)) area
     unfolding pasted
     pasted-text =
         let none : 0 + length (textOf n table) ≡ length (textOf n table) = omega arith in

@@ -58,7 +58,8 @@ fn put_row(area: &mut [u8], at: usize, row: Row) -> usize
 // The length of the lines of so many rows.
 fn rows_length(rows: usize, src: &[u16; 512], dst: &[u16; 512], due: &[u16; 512]) -> usize
     requires { ⌜ rows ≤ 512 ⌝ }
-    ensures { λ r. ⌜ r ≡ length (rowsText (listed rows (held (now (src .entry)) (now (dst .entry)) (now (due .entry))))) ⌝ }
+    ensures { λ r. ⌜ r ≡ length (rowsText (listed rows (held (now (src .entry)) (now (dst .entry)) (now (due .entry)))))
+        ⌝ }
 {
     let mut sum = 0;
     let mut i = 0;
@@ -82,8 +83,10 @@ fn put_rows(
     dst: &[u16; 512],
     due: &[u16; 512],
 )
-    requires { ⌜ (rows ≤ 512) × (from + length (rowsText (listed rows (held (now src) (now dst) (now due)))) ≤ length (now area)) ⌝ }
-    ensures { λ _. ⌜ now (area .exit) ≡ pasted (now (area .entry)) from (rowsText (listed rows (held (now (src .entry)) (now (dst .entry)) (now (due .entry))))) ⌝ }
+    requires { ⌜ (rows ≤ 512) × (from + length (rowsText (listed rows (held (now src) (now dst) (now due)))) ≤ length
+        (now area)) ⌝ }
+    ensures { λ _. ⌜ now (area .exit) ≡ pasted (now (area .entry)) from
+        (rowsText (listed rows (held (now (src .entry)) (now (dst .entry)) (now (due .entry))))) ⌝ }
 {
     let mut at = from;
     let mut i = 0;
@@ -103,7 +106,8 @@ fn put_rows(
 
 // Writes the text of a table, its rows given by columns, into an area that is long enough.
 pub fn write_columns(nodes: u16, rows: usize, columns: Columns, area: &mut [u8]) -> Writing
-    ensures { λ r. ⌜ (r ≡ writingOf nodes (listed rows columns) (length (now (area .entry)))) × (now (area .exit) ≡ areaAfter nodes (listed rows columns) (now (area .entry))) ⌝ }
+    ensures { λ r. ⌜ (r ≡ writingOf nodes (listed rows columns) (length (now (area .entry))))
+        × (now (area .exit) ≡ areaAfter nodes (listed rows columns) (now (area .entry))) ⌝ }
 {
     if 512 < rows {
         return not_written(2);

@@ -3,7 +3,8 @@
 use mathlib.Core.Path.{_∙_, sym}
 use native.Mathlib.Omega.{arith}
 use borrow.Author.Tests.{not-true, not-false}
-use Rattle.lines.proofs.Seeing.{no-key, key-inside, figures-inside, seen-great, seen-other, seen-no-end, seen-other-end, seen-good}
+use Rattle.lines.proofs.Seeing.{no-key, key-inside, figures-inside, seen-great, seen-other, seen-no-end}
+use Rattle.lines.proofs.Seeing.{seen-other-end, seen-good}
 use borrow.Author.Needs.{needs}
 use Rattle.lines.proofs.item_at.Statement.{statement}
 use Rattle.lines.proofs.item_at.Tie as tie
@@ -14,7 +15,8 @@ key-at-requires c κs = search needs
 returns : tie.Need-returns
 returns c =
     let a = c .before .before .before .before .args in
-    no-key (a .key .now) (a .mark) (a .text .now) (a .at) (sym (c .before .key-at .ensures) ∙ not-true _ (c .if1 .taken))
+    no-key (a .key .now) (a .mark) (a .text .now) (a .at)
+    (sym (c .before .key-at .ensures) ∙ not-true _ (c .if1 .taken))
 
 add-from : tie.Need-add-from
 add-from c = search needs
@@ -42,7 +44,8 @@ returns-3 c =
     let a = start .args in
     let f = read .figures-at in
     let w = wide .width-of in
-    seen-other (a .key .now) (a .mark) (a .text .now) (a .at) (f .result) (f .ensures) (w .result) (w .ensures) (start .pre .1) (c .if3 .taken)
+    seen-other (a .key .now) (a .mark) (a .text .now) (a .at) (f .result) (f .ensures) (w .result) (w .ensures)
+    (start .pre .1) (c .if3 .taken)
 
 add-end : tie.Need-add-end
 add-end c =
@@ -64,7 +67,8 @@ returns-4 c =
     let f = read .figures-at in
     let w = wide .width-of in
     let same = c .before .before .if3 .left in
-    seen-no-end (a .key .now) (a .mark) (a .text .now) (a .at) (f .result) (f .ensures) (w .result) (w .ensures) same (c .if4 .taken)
+    seen-no-end (a .key .now) (a .mark) (a .text .now) (a .at) (f .result) (f .ensures) (w .result) (w .ensures) same
+    (c .if4 .taken)
 
 shared-slice-read-if5 : tie.Need-shared-slice-read-if5
 shared-slice-read-if5 c = search needs
@@ -79,7 +83,8 @@ returns-5 c =
     let w = wide .width-of in
     let same = c .before .before .before .before .if3 .left in
     let inside = c .before .before .if4 .left in
-    seen-other-end (a .key .now) (a .mark) (a .text .now) (a .at) (f .result) (f .ensures) (w .result) (w .ensures) same inside (c .if5 .taken)
+    seen-other-end (a .key .now) (a .mark) (a .text .now) (a .at) (f .result) (f .ensures) (w .result)
+    (w .ensures) same inside (c .if5 .taken)
 
 cast-t13 : tie.Need-cast-t13
 cast-t13 c = search needs
@@ -100,7 +105,8 @@ returns-6 c =
     let small = wide .before .if2 .left in
     let same = c .before .before .before .before .before .if3 .left in
     let inside = c .before .before .before .if4 .left in
-    seen-good (a .key .now) (a .mark) (a .text .now) (a .at) (f .result) (f .ensures) (w .result) (w .ensures) same inside stands small (c .before .if5 .left)
+    seen-good (a .key .now) (a .mark) (a .text .now) (a .at) (f .result) (f .ensures) (w .result)
+    (w .ensures) same inside stands small (c .before .if5 .left)
 
 pub item-at-spec : {M : Type 1} → statement M
 item-at-spec =

@@ -12,7 +12,8 @@ use Rattle.lists.proofs.clear.Statement.{statement}
 use Rattle.lists.proofs.clear.Tie as tie
 
 abbrev Inv-loop : tie.InvT-loop
-Inv-loop part₀ i₀ part i = (i ≤ length part₀) × (length part ≡ length part₀) × (part ≡ replicate {A = ℕ} i 0 ++ drop i part₀)
+Inv-loop part₀ i₀ part i =
+    (i ≤ length part₀) × (length part ≡ length part₀) × (part ≡ replicate {A = ℕ} i 0 ++ drop i part₀)
 
 abbrev μ-loop : tie.MeasureT-loop
 μ-loop part₀ i₀ part i = length part₀ - i
@@ -34,8 +35,11 @@ loop-less c = omega arith
 
 loop-again : tie.Need-loop-again Inv-loop μ-loop
 loop-again c =
-    let part₀ = c .before .before .args .part .now in
-    (omega arith, simp length-set (c .before .loop .inv .1), rw (c .before .loop .inv .2) (fill-more (c .before .loop .i) 0 part₀ (omega arith)))
+    let part₀ = c .before .before .args .part .now in (
+      omega arith,
+      simp length-set (c .before .loop .inv .1),
+      rw (c .before .loop .inv .2) (fill-more (c .before .loop .i) 0 part₀ (omega arith)),
+    )
 
 same-length : tie.Need-same-length Inv-loop μ-loop
 same-length c = c .before .loop .inv .1

@@ -1,4 +1,5 @@
--- `lists::first_place` meets its contract: as long as the entries passed are others, the place is that in the rest, counted on.
+-- `lists::first_place` meets its contract: as long as the entries passed are others, the place is that in the rest,
+-- counted on.
 -- Assumes nothing.
 use mathlib.Core.Path.{sym, _≡_, _∙_}
 use Prim.Native.Nat.{_+_, _≤_, _-_}

@@ -38,7 +38,8 @@ loop-again : tie.Need-loop-again Inv-loop μ-loop
 loop-again c =
     let part = c .before .before .before .before .args .part .now in
     let i = c .before .before .before .loop .i in
-    let more : largest (take (i + 1) part) ≡ max (largest (take i part)) (getD part i 0) = largest-more part i (omega arith) in
+    let more : largest (take (i + 1) part) ≡ max (largest (take i part)) (getD part i 0) =
+    largest-more part i (omega arith) in
     (omega arith, ⊎-elim (λ w. omega arith) (λ w. omega arith) (c .if1 .came))
 
 returns : tie.Need-returns Inv-loop μ-loop

@@ -42,7 +42,9 @@ loop-less c = search needs
 loop-again : tie.Need-loop-again Inv-loop μ-loop
 loop-again c =
     let part = c .before .before .before .args .part .now in
-    let more : total (take (c .before .before .loop .i + 1) part) ≡ total (take (c .before .before .loop .i) part) + getD part (c .before .before .loop .i) 0 = total-more part (c .before .before .loop .i) (omega arith) in
+    let more : total (take (c .before .before .loop .i + 1) part) ≡ total
+    (take (c .before .before .loop .i) part) + getD part (c .before .before .loop .i) 0 =
+    total-more part (c .before .before .loop .i) (omega arith) in
     (omega arith, omega (arith, c .shared-slice-known .given (c .before .before .loop .i)), omega arith)
 
 returns : tie.Need-returns Inv-loop μ-loop

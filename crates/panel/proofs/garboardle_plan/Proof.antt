@@ -1,4 +1,5 @@
--- `panel::garboardle_plan` meets its contract: lent rows and two areas, by the law of `lent`. What `plan_flat` says of the columns is what is promised of the rows.
+-- `panel::garboardle_plan` meets its contract: lent rows and two areas, by the law of `lent`. What `plan_flat` says of
+-- the columns is what is promised of the rows.
 -- Assumes nothing.
 use mathlib.Core.List.{List, [], _∷_}
 use mir.Syntax.{w16}

@@ -1,4 +1,5 @@
--- `panel::garboardle_plan_table` meets its contract: the columns of the area hold its rows, and planning them is planning those.
+-- `panel::garboardle_plan_table` meets its contract: the columns of the area hold its rows, and planning them is
+-- planning those.
 -- Assumes nothing.
 use borrow.Author.Needs.{needs}
 use Rattle.area.specs.Area.{nodesIn}

@@ -1,4 +1,5 @@
--- `panel::garboardle_read` meets its contract: a lent text is read into lent rows, by the law of `lent`. What `parse_flat` found, stored at the front of the rows, is what is promised.
+-- `panel::garboardle_read` meets its contract: a lent text is read into lent rows, by the law of `lent`. What
+-- `parse_flat` found, stored at the front of the rows, is what is promised.
 -- Assumes nothing.
 use mathlib.Core.Path.{ap}
 use mathlib.Core.List.{[], _∷_}

@@ -1,4 +1,5 @@
--- `panel::garboardle_write` meets its contract: lent rows and one area, by the law of `lent`. What `write_flat` says of the columns is what is promised of the rows.
+-- `panel::garboardle_write` meets its contract: lent rows and one area, by the law of `lent`. What `write_flat` says of
+-- the columns is what is promised of the rows.
 -- Assumes nothing.
 use mathlib.Core.List.{List, [], _∷_}
 use mir.Syntax.{w8}

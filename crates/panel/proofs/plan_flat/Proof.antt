@@ -18,7 +18,8 @@ same-length-2 : tie.Need-same-length-2
 same-length-2 c = search needs
 
 returns : tie.Need-returns
-returns c = flat-planned _ _ (c .before .before .before .before .before .plan-columns .ensures) (c .flat-answer .ensures)
+returns c =
+    flat-planned _ _ (c .before .before .before .before .before .plan-columns .ensures) (c .flat-answer .ensures)
 
 pub plan-flat-spec : {M : Type 1} → statement M
 plan-flat-spec = tie.close (tie.spec plan-columns-requires flat-answer-requires same-length same-length-2 returns)

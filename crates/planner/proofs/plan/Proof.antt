@@ -1,4 +1,5 @@
--- `planner::plan` meets its contract: lent rows and two areas, by the law of `lent`. What `plan_columns` says of the columns is what is promised of the rows (`Loaded.antt`).
+-- `planner::plan` meets its contract: lent rows and two areas, by the law of `lent`. What `plan_columns` says of the
+-- columns is what is promised of the rows (`Loaded.antt`).
 -- Assumes nothing.
 use mathlib.Core.List.{List, [], _∷_}
 use mir.Syntax.{w16}

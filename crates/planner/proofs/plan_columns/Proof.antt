@@ -1,4 +1,5 @@
--- `planner::plan_columns` meets its contract: the nodes and the number of rows are judged first, and then the columns' fronts.
+-- `planner::plan_columns` meets its contract: the nodes and the number of rows are judged first, and then the columns'
+-- fronts.
 -- Assumes nothing.
 use mathlib.Core.Path.{_≡_, sym}
 use native.Mathlib.Omega.{arith}
@@ -17,7 +18,8 @@ refusal-requires c κs = search needs
 returns : tie.Need-returns
 returns c =
     let a = c .before .before .before .before .args in
-    turned-away (a .nodes) (listed (a .rows) (a .columns)) (a .plan .now) (a .arrivals .now) (judge-few (a .nodes) (listed (a .rows) (a .columns)) (omega arith)) (omega arith) (c .refusal .ensures)
+    turned-away (a .nodes) (listed (a .rows) (a .columns)) (a .plan .now) (a .arrivals .now)
+    (judge-few (a .nodes) (listed (a .rows) (a .columns)) (omega arith)) (omega arith) (c .refusal .ensures)
 
 refusal-requires-2 : tie.Need-refusal-requires-2
 refusal-requires-2 c κs = search needs
@@ -25,7 +27,8 @@ refusal-requires-2 c κs = search needs
 returns-2 : tie.Need-returns-2
 returns-2 c =
     let a = c .before .before .before .before .before .args in
-    turned-away (a .nodes) (listed (a .rows) (a .columns)) (a .plan .now) (a .arrivals .now) (judge-wide (a .nodes) (listed (a .rows) (a .columns)) (omega arith)) (omega arith) (c .refusal2 .ensures)
+    turned-away (a .nodes) (listed (a .rows) (a .columns)) (a .plan .now) (a .arrivals .now)
+    (judge-wide (a .nodes) (listed (a .rows) (a .columns)) (omega arith)) (omega arith) (c .refusal2 .ensures)
 
 refusal-requires-3 : tie.Need-refusal-requires-3
 refusal-requires-3 c κs = search needs
@@ -33,7 +36,9 @@ refusal-requires-3 c κs = search needs
 returns-3 : tie.Need-returns-3
 returns-3 c =
     let a = c .before .before .before .before .before .before .args in
-    turned-away (a .nodes) (listed (a .rows) (a .columns)) (a .plan .now) (a .arrivals .now) (judge-many (a .nodes) (listed (a .rows) (a .columns)) (omega arith) (omega arith) (rw (length-listed (a .rows) (a .columns)) (omega arith))) (omega arith) (c .refusal3 .ensures)
+    turned-away (a .nodes) (listed (a .rows) (a .columns)) (a .plan .now) (a .arrivals .now)
+    (judge-many (a .nodes) (listed (a .rows) (a .columns)) (omega arith) (omega arith)
+    (rw (length-listed (a .rows) (a .columns)) (omega arith))) (omega arith) (c .refusal3 .ensures)
 
 array-share-prefix-src : tie.Need-array-share-prefix-src
 array-share-prefix-src c =

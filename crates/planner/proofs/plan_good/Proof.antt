@@ -1,4 +1,5 @@
--- `planner::plan_good` meets its contract: the areas' fronts are lent to the run, and what it leaves there is what is promised.
+-- `planner::plan_good` meets its contract: the areas' fronts are lent to the run, and what it leaves there is what is
+-- promised.
 -- Assumes nothing.
 use mathlib.Core.Path.{_∙_, ap, sym}
 use native.Mathlib.Omega.{arith}
@@ -12,7 +13,10 @@ use Rattle.planner.proofs.plan_good.Statement.{statement}
 use Rattle.planner.proofs.plan_good.Tie as tie
 
 -- Each row's links were written in the front of the room for them.
-written : (c : tie.After-measure) → Front (length (c .before .before .before .before .before .before .before .before .before .before .before .args .src .now)) (c .before .before .zeros .result) (c .measure .last .1 .1 .1 .0)
+written : (c : tie.After-measure)
+    → Front
+    (length (c .before .before .before .before .before .before .before .before .before .before .before .args .src .now))
+    (c .before .before .zeros .result) (c .measure .last .1 .1 .1 .0)
 written c =
     let s = c .before .before .before .before .before .before .before .before .before .before .before in
     let room = c .before .before .zeros in
@@ -39,7 +43,8 @@ returns : tie.Need-returns
 returns c =
     let s = c .before .before .before .before .before .before .before .before in
     let last = c .before .before .greatest .ensures in
-    short-plan (s .pre .0) (s .pre .1) (s .args .plan .now) (s .args .arrivals .now) (c .refusal .ensures) (rw last at (c .before .if1 .taken))
+    short-plan (s .pre .0) (s .pre .1) (s .args .plan .now) (s .args .arrivals .now) (c .refusal .ensures)
+    (rw last at (c .before .if1 .taken))
 
 refusal-requires-2 : tie.Need-refusal-requires-2
 refusal-requires-2 c κs = search needs
@@ -48,7 +53,8 @@ returns-2 : tie.Need-returns-2
 returns-2 c =
     let s = c .before .before .before .before .before .before .before .before .before in
     let last = c .before .before .before .greatest .ensures in
-    short-arrivals (s .pre .0) (s .pre .1) (s .args .plan .now) (s .args .arrivals .now) (c .refusal2 .ensures) (rw last at (c .before .before .if1 .left)) (c .before .if2 .taken)
+    short-arrivals (s .pre .0) (s .pre .1) (s .args .plan .now) (s .args .arrivals .now) (c .refusal2 .ensures)
+    (rw last at (c .before .before .if1 .left)) (c .before .if2 .taken)
 
 zeros-requires : tie.Need-zeros-requires
 zeros-requires c κs = search needs
@@ -77,20 +83,25 @@ slice-relend-prefix-plan-run : tie.Need-slice-relend-prefix-plan-run
 slice-relend-prefix-plan-run c = search needs
 
 slice-aggregate-plan-run-2 : tie.Need-slice-aggregate-plan-run-2
-slice-aggregate-plan-run-2 c = let s = c .before .before .before .before .before .before .before .before .before .before .before .before .before .before in sym (length-take-le _ (s .args .plan .now) (omega arith))
+slice-aggregate-plan-run-2 c =
+    let s = c .before .before .before .before .before .before .before .before .before .before .before .before .before .before in sym (length-take-le _ (s .args .plan .now) (omega arith))
 
 slice-relend-prefix-plan-run-2 : tie.Need-slice-relend-prefix-plan-run-2
 slice-relend-prefix-plan-run-2 c = search needs
 
 slice-aggregate-plan-run-3 : tie.Need-slice-aggregate-plan-run-3
-slice-aggregate-plan-run-3 c = let s = c .before .before .before .before .before .before .before .before .before .before .before .before .before .before .before in sym (length-take-le _ (s .args .arrivals .now) (omega arith))
+slice-aggregate-plan-run-3 c =
+    let s = c .before .before .before .before .before .before .before .before .before .before .before .before .before .before .before in sym (length-take-le _ (s .args .arrivals .now) (omega arith))
 
 plan-run-requires : tie.Need-plan-run-requires
 plan-run-requires c κs =
     let s = c .before .before .before .before .before .before .before .before .before .before .before .before .before .before .before in
     let w = c .before .before .before .before in
-    let plan = length-take-le _ (s .args .plan .now) (omega arith) ∙ ap (λ g. s .args .nodes * g) (c .before .before .before .before .before .before .before .before .before .greatest .ensures) in
-    runnable (s .pre .0) (s .pre .1) _ _ (rw (front-again (written w)) (w .measure .ensures)) plan (length-take-le _ (s .args .arrivals .now) (omega arith))
+    let plan = length-take-le _ (s .args .plan .now) (omega arith)
+    ∙ ap (λ g. s .args .nodes * g)
+    (c .before .before .before .before .before .before .before .before .before .greatest .ensures) in
+    runnable (s .pre .0) (s .pre .1) _ _ (rw (front-again (written w)) (w .measure .ensures)) plan
+    (length-take-le _ (s .args .arrivals .now) (omega arith))
 
 same-length : tie.Need-same-length
 same-length c = search needs
@@ -102,8 +113,11 @@ returns-3 : tie.Need-returns-3
 returns-3 c =
     let s = c .before .before .before .before .before .before .before .before .before .before .before .before .before .before .before .before .before .before .before .before .before in
     let w = c .before .before .before .before .before .before .before .before .before .before in
-    let last = c .before .before .before .before .before .before .before .before .before .before .before .before .before .before .before .greatest .ensures in
-    planned-with (s .pre .0) (s .pre .1) (s .args .plan .now) (s .args .arrivals .now) last (omega arith) (omega arith) (c .before .before .before .before .before .plan-run .ensures) (rw (front-again (written w)) (w .measure .ensures))
+    let last =
+    c .before .before .before .before .before .before .before .before .before .before .before .before .before .before .before .greatest .ensures in
+    planned-with (s .pre .0) (s .pre .1) (s .args .plan .now) (s .args .arrivals .now) last (omega arith) (omega arith)
+    (c .before .before .before .before .before .plan-run .ensures)
+    (rw (front-again (written w)) (w .measure .ensures))
 
 pub plan-good-spec : {M : Type 1} → statement M
 plan-good-spec =

@@ -16,10 +16,15 @@ enum-told : tie.Need-enum-told
 enum-told c = search needs
 
 plan-good-requires : tie.Need-plan-good-requires
-plan-good-requires c κs = (c .before .before .before .before .before .before .before .before .before .before .pre, sym (c .before .before .before .before .judge-rows .ensures) ∙ c .before .before .enum-told .given .1)
+plan-good-requires c κs = (
+  c .before .before .before .before .before .before .before .before .before .before .pre,
+  sym (c .before .before .before .before .judge-rows .ensures) ∙ c .before .before .enum-told .given .1,
+)
 
 returns : tie.Need-returns
-returns c = first-bad (c .before .before .before .before .before .before .before .before .before .pre) (c .before .before .before .judge-rows .ensures) (c .before .verdict .given .1)
+returns c =
+    first-bad (c .before .before .before .before .before .before .before .before .before .pre)
+    (c .before .before .before .judge-rows .ensures) (c .before .verdict .given .1)
 
 same-length : tie.Need-same-length
 same-length c = search needs
@@ -30,7 +35,9 @@ same-length-2 c = search needs
 returns-2 : tie.Need-returns-2
 returns-2 c =
     let s = c .before .before .before .before .before .before .before .before .before .before .before .before .before .before .before in
-    none-bad (s .pre) (c .before .before .before .before .before .before .before .before .before .judge-rows .ensures) (c .before .before .before .before .before .before .before .enum-told .given .1) (c .before .before .before .before .plan-good .ensures)
+    none-bad (s .pre) (c .before .before .before .before .before .before .before .before .before .judge-rows .ensures)
+    (c .before .before .before .before .before .before .before .enum-told .given .1)
+    (c .before .before .before .before .plan-good .ensures)
 
 pub plan-rows-spec : {M : Type 1} → statement M
 plan-rows-spec =

@@ -42,9 +42,11 @@ same-length-3 c = search needs
 returns : tie.Need-returns
 returns c =
     let s = c .before .before .before .before .before .before .before .before .before .before .before .before .before .before .before .before .before .before .before .before .before .before .before in
-    let sends = c .before .before .before .before .before .before .before .before .before .before .before .before .before .before .before .before .sum .ensures in
+    let sends =
+    c .before .before .before .before .before .before .before .before .before .before .before .before .before .before .before .before .sum .ensures in
     let last = c .before .before .greatest .ensures in
-    run-accepted (s .pre) (c .before .before .before .before .before .before .before .before .before .before .before .before .run .ensures) (omega arith) _ sends _ last _ (c .sum-up .ensures)
+    run-accepted (s .pre)
+    (c .before .before .before .before .before .before .before .before .before .before .before .before .run .ensures) (omega arith) _ sends _ last _ (c .sum-up .ensures)
 
 same-length-4 : tie.Need-same-length-4
 same-length-4 c = search needs
@@ -56,7 +58,9 @@ same-length-6 : tie.Need-same-length-6
 same-length-6 c = search needs
 
 returns-2 : tie.Need-returns-2
-returns-2 c = run-refused (c .before .before .before .before .before .before .before .before .before .before .before .before .before .before .before .before .before .before .before .before .pre) (c .before .before .before .before .before .before .before .before .before .run .ensures) (omega arith)
+returns-2 c =
+    run-refused
+    (c .before .before .before .before .before .before .before .before .before .before .before .before .before .before .before .before .before .before .before .before .pre) (c .before .before .before .before .before .before .before .before .before .run .ensures) (omega arith)
 
 pub plan-run-spec : {M : Type 1} → statement M
 plan-run-spec =

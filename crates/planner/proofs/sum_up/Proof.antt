@@ -23,7 +23,12 @@ divide-requires-2 c κs = search needs
 returns : tie.Need-returns
 unfolding summaryOf
 returns c =
-    cc (c .before .before .before .greatest .ensures, c .before .before .sum .ensures, c .before .divide .ensures, c .divide2 .ensures)
+    cc (
+      c .before .before .before .greatest .ensures,
+      c .before .before .sum .ensures,
+      c .before .divide .ensures,
+      c .divide2 .ensures,
+    )
 
 pub sum-up-spec : {M : Type 1} → statement M
 sum-up-spec =

@@ -15,7 +15,9 @@ zeros-requires-3 : tie.Need-zeros-requires-3
 zeros-requires-3 c κs = search needs
 
 returns : tie.Need-returns
-returns c = no-columns-are (c .before .before .zeros .result) (c .before .zeros2 .result) (c .zeros3 .result) (c .before .before .zeros .ensures) (c .before .zeros2 .ensures) (c .zeros3 .ensures)
+returns c =
+    no-columns-are (c .before .before .zeros .result) (c .before .zeros2 .result) (c .zeros3 .result)
+    (c .before .before .zeros .ensures) (c .before .zeros2 .ensures) (c .zeros3 .ensures)
 
 pub no-columns-spec : {M : Type 1} → statement M
 no-columns-spec = tie.close (tie.spec zeros-requires zeros-requires-2 zeros-requires-3 returns)

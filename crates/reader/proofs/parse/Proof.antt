@@ -24,10 +24,14 @@ no-columns-requires : tie.Need-no-columns-requires
 no-columns-requires c κs = search needs
 
 returns : tie.Need-returns
-returns c = none-parsed (c .before .before .before .read-columns .ensures) (c .before .before .rows-filled .result) (c .before .before .rows-filled .ensures) (c .no-columns .result) (c .before .if1 .taken) (c .no-columns .ensures)
+returns c =
+    none-parsed (c .before .before .before .read-columns .ensures) (c .before .before .rows-filled .result)
+    (c .before .before .rows-filled .ensures) (c .no-columns .result) (c .before .if1 .taken) (c .no-columns .ensures)
 
 returns-2 : tie.Need-returns-2
-returns-2 c = some-parsed (c .before .before .read-columns .ensures) (c .before .rows-filled .result) (c .before .rows-filled .ensures) (c .if1 .left)
+returns-2 c =
+    some-parsed (c .before .before .read-columns .ensures) (c .before .rows-filled .result)
+    (c .before .rows-filled .ensures) (c .if1 .left)
 
 pub parse-spec : {M : Type 1} → statement M
 parse-spec =

@@ -1,4 +1,5 @@
--- `reader::read` meets its contract: a lent text is read into lent rows, by the law of `lent`. What `parse` found, stored at the front of the rows, is what is promised (`Lent.antt`).
+-- `reader::read` meets its contract: a lent text is read into lent rows, by the law of `lent`. What `parse` found,
+-- stored at the front of the rows, is what is promised (`Lent.antt`).
 -- Assumes nothing.
 use mathlib.Core.Path.{ap}
 use mathlib.Core.List.{[], _∷_}

@@ -20,7 +20,8 @@ loop-holds : tie.Need-loop-holds Inv-loop μ-loop
 loop-holds c =
     let a = c .before .args in
     let zeros = c .before .pre in
-    none-loaded (a .text .now) (a .from) (a .rows) (a .src .now) (a .dst .now) (a .due .now) (zeros .0) (zeros .2) (zeros .3) (zeros .4)
+    none-loaded (a .text .now) (a .from) (a .rows) (a .src .now) (a .dst .now) (a .due .now) (zeros .0) (zeros .2)
+    (zeros .3) (zeros .4)
 
 row-at-requires : tie.Need-row-at-requires Inv-loop μ-loop
 row-at-requires c κs = search needs
@@ -87,7 +88,8 @@ loop-again c =
     let s = c .before .before .before .row-at in
     let g = c .before .row .given in
     let passed = row-whole text (k .at) (s .result) (s .ensures) (g .0 .0) (g .0 .1 .0) (k .inv .inside) (g .1) in
-    more-loaded (k .inv) (c .before .before .before .before .loop-test .taken) (g .0 .0) (g .0 .1 .0) (c .before .before .before .before .before .before .before .pre .1) passed
+    more-loaded (k .inv) (c .before .before .before .before .loop-test .taken) (g .0 .0) (g .0 .1 .0)
+    (c .before .before .before .before .before .before .before .pre .1) passed
 
 returns-2 : tie.Need-returns-2 Inv-loop μ-loop
 returns-2 c = left-over (c .before .before .loop .inv) (c .before .loop-test .left) (c .if1 .taken)

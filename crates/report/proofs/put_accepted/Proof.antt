@@ -7,7 +7,8 @@ use Rattle.report.proofs.put_accepted.Statement.{statement}
 use Rattle.report.proofs.put_accepted.Tie as tie
 
 -- There is room from the start.
-printing : (s : tie.Start) → Printing (s .args .area .now) (s .args .last) (s .args .arrivals .now) (s .args .nodes) (s .args .slots) (s .args .plan .now)
+printing : (s : tie.Start) → Printing (s .args .area .now) (s .args .last) (s .args .arrivals .now) (s .args .nodes)
+    (s .args .slots) (s .args .plan .now)
 printing s = record { room = s .pre .1 }
 
 put-verdict-requires : tie.Need-put-verdict-requires
@@ -17,7 +18,11 @@ slice-aggregate-put-line : tie.Need-slice-aggregate-put-line
 slice-aggregate-put-line c = search needs
 
 put-line-requires : tie.Need-put-line-requires
-put-line-requires c κs = (last-fits (printing (c .before .before .before .before .before .before .before .before .before)) (c .before .before .before .before .put-verdict .ensures), omega arith)
+put-line-requires c κs = (
+  last-fits (printing (c .before .before .before .before .before .before .before .before .before))
+      (c .before .before .before .before .put-verdict .ensures),
+  omega arith,
+)
 
 put-arrives-requires : tie.Need-put-arrives-requires
 put-arrives-requires c κs =
@@ -29,7 +34,9 @@ put-arrives-requires c κs =
 put-sends-requires : tie.Need-put-sends-requires
 put-sends-requires c κs =
     let s = c .before .before .before .before .before .before .before .before .before .before .before .before .before .before .before .before .before in
-    let verdict = c .before .before .before .before .before .before .before .before .before .before .before .before .put-verdict in
+    let verdict =
+    c .before .before .before .before .before .before .before .before .before .before .before .before .put-verdict
+    in
     let last = c .before .before .before .before .before .before .before .put-line in
     let arrives = c .before .before .before .put-arrives in
     (s .pre .0, sends-fit (printing s) (verdict .ensures) (last .ensures) (arrives .ensures))
@@ -40,7 +47,8 @@ same-length c = search needs
 returns : tie.Need-returns
 returns c =
     let s = c .before .before .before .before .before .before .before .before .before .before .before .before .before .before .before .before .before .before .before .before in
-    let verdict = c .before .before .before .before .before .before .before .before .before .before .before .before .before .before .before .put-verdict in
+    let verdict =
+    c .before .before .before .before .before .before .before .before .before .before .before .before .before .before .before .put-verdict in
     let last = c .before .before .before .before .before .before .before .before .before .before .put-line in
     let arrives = c .before .before .before .before .before .before .put-arrives in
     let sends = c .before .before .put-sends in

@@ -13,7 +13,8 @@ use Rattle.report.proofs.put_arrives.Statement.{statement}
 use Rattle.report.proofs.put_arrives.Tie as tie
 
 abbrev Inv-loop : tie.InvT-loop
-Inv-loop area₀ from arrivals at₀ i₀ t6 area at i = (i ≤ length arrivals) × Putting area₀ from (arriveLines arrivals) area at (arriveLines (drop i arrivals))
+Inv-loop area₀ from arrivals at₀ i₀ t6 area at i =
+    (i ≤ length arrivals) × Putting area₀ from (arriveLines arrivals) area at (arriveLines (drop i arrivals))
 
 abbrev μ-loop : tie.MeasureT-loop
 μ-loop area₀ from arrivals at₀ i₀ t6 area at i = length arrivals - i
@@ -48,14 +49,19 @@ loop-less c = search needs
 loop-again : tie.Need-loop-again Inv-loop μ-loop
 loop-again c =
     let s = c .before .before .before .before .before .before .before .before .before .before in
-    let l = c .before .before .before .before .before .before .before .loop in
-    (omega arith, arrive-put (s .args .arrivals .now) (l .i) (l .inv .1) (c .before .before .before .before .before .before .loop-test .taken) (c .before .before .put-line .ensures))
+    let l = c .before .before .before .before .before .before .before .loop in (
+      omega arith,
+      arrive-put (s .args .arrivals .now) (l .i) (l .inv .1)
+          (c .before .before .before .before .before .before .loop-test .taken) (c .before .before .put-line .ensures),
+    )
 
 same-length : tie.Need-same-length Inv-loop μ-loop
 same-length c = as-long (c .before .loop .inv .1)
 
 returns : tie.Need-returns Inv-loop μ-loop
-returns c = all-put (c .before .loop .inv .1) (no-arrive (c .before .before .before .before .args .arrivals .now) (c .before .loop .i) (c .loop-test .left))
+returns c =
+    all-put (c .before .loop .inv .1)
+    (no-arrive (c .before .before .before .before .args .arrivals .now) (c .before .loop .i) (c .loop-test .left))
 
 pub put-arrives-spec : {M : Type 1} → statement M
 put-arrives-spec =

@@ -12,7 +12,8 @@ use Rattle.report.proofs.put_send.Statement.{statement}
 use Rattle.report.proofs.put_send.Tie as tie
 
 abbrev Inv-loop : tie.InvT-loop
-Inv-loop area₀ from entries n at₀ i₀ t8 area at i = (i ≤ n) × (n ≡ length entries) × Putting area₀ at₀ (parted (drop 1 entries)) area at (parted (drop i entries))
+Inv-loop area₀ from entries n at₀ i₀ t8 area at i =
+    (i ≤ n) × (n ≡ length entries) × Putting area₀ at₀ (parted (drop 1 entries)) area at (parted (drop i entries))
 
 abbrev μ-loop : tie.MeasureT-loop
 μ-loop area₀ from entries n at₀ i₀ t8 area at i = n - i
@@ -28,15 +29,22 @@ mark-behind-requires c κs = search needs
 
 put-item-requires : tie.Need-put-item-requires Inv-loop μ-loop
 put-item-requires c κs =
-    let s = c .before .before .before .before .before .before in
-    (first-fits (s .args .area .now) (s .args .from) (s .args .entries .now) (s .pre .0) (s .pre .1) (c .mark-behind .ensures), omega arith)
+    let s = c .before .before .before .before .before .before in (
+      first-fits (s .args .area .now) (s .args .from) (s .args .entries .now) (s .pre .0) (s .pre .1)
+          (c .mark-behind .ensures),
+      omega arith,
+    )
 
 loop-holds : tie.Need-loop-holds Inv-loop μ-loop
 loop-holds c =
     let s = c .before .before .before .before .before .before .before .before .before in
     let mark = c .before .before .before .mark-behind in
-    let first = c .before .before .put-item in
-    (s .pre .0, refl, others-begun (s .args .area .now) (s .args .from) (s .args .entries .now) (s .pre .0) (s .pre .1) (mark .ensures) (first .ensures))
+    let first = c .before .before .put-item in (
+      s .pre .0,
+      refl,
+      others-begun (s .args .area .now) (s .args .from) (s .args .entries .now) (s .pre .0) (s .pre .1)
+          (mark .ensures) (first .ensures),
+    )
 
 slice-aggregate-put-item-2 : tie.Need-slice-aggregate-put-item-2 Inv-loop μ-loop
 slice-aggregate-put-item-2 c = search needs
@@ -54,8 +62,11 @@ put-item-requires-2 : tie.Need-put-item-requires-2 Inv-loop μ-loop
 put-item-requires-2 c κs =
     let s = c .before .before .before .before .before .before .before .before .before .before .before .before .before .before .before in
     let l = c .before .before .before .before .before .loop in
-    let mark = c .mark-behind2 in
-    (entry-fits (s .args .entries .now) (l .i) (l .inv .2) (c .before .before .before .before .loop-test .taken) (mark .ensures), omega arith)
+    let mark = c .mark-behind2 in (
+      entry-fits (s .args .entries .now) (l .i) (l .inv .2) (c .before .before .before .before .loop-test .taken)
+          (mark .ensures),
+      omega arith,
+    )
 
 add-i : tie.Need-add-i Inv-loop μ-loop
 add-i c = search needs
@@ -68,15 +79,21 @@ loop-again c =
     let s = c .before .before .before .before .before .before .before .before .before .before .before .before .before .before .before .before .before .before in
     let l = c .before .before .before .before .before .before .before .before .loop in
     let mark = c .before .before .before .mark-behind2 in
-    let entry = c .before .before .put-item2 in
-    (omega arith, refl, entry-put (s .args .entries .now) (l .i) (l .inv .2) (c .before .before .before .before .before .before .before .loop-test .taken) (mark .ensures) (entry .ensures))
+    let entry = c .before .before .put-item2 in (
+      omega arith,
+      refl,
+      entry-put (s .args .entries .now) (l .i) (l .inv .2)
+          (c .before .before .before .before .before .before .before .loop-test .taken) (mark .ensures) (entry .ensures),
+    )
 
 same-length : tie.Need-same-length Inv-loop μ-loop
 same-length c =
     let s = c .before .before .before .before .before .before .before .before .before .before .before in
     let mark = c .before .before .before .before .before .mark-behind in
     let first = c .before .before .before .before .put-item in
-    as-long (c .before .loop .inv .2) ∙ first-long (s .args .area .now) (s .args .from) (s .args .entries .now) (s .pre .0) (s .pre .1) (mark .ensures) (first .ensures)
+    as-long (c .before .loop .inv .2)
+    ∙ first-long (s .args .area .now) (s .args .from) (s .args .entries .now) (s .pre .0) (s .pre .1)
+    (mark .ensures) (first .ensures)
 
 returns : tie.Need-returns Inv-loop μ-loop
 returns c =
@@ -84,7 +101,8 @@ returns c =
     let mark = c .before .before .before .before .before .mark-behind in
     let first = c .before .before .before .before .put-item in
     let l = c .before .loop in
-    line-put (s .args .area .now) (s .args .from) (s .args .entries .now) (s .pre .0) (s .pre .1) (mark .ensures) (first .ensures) (l .i) (c .loop-test .left) (l .inv .2)
+    line-put (s .args .area .now) (s .args .from) (s .args .entries .now) (s .pre .0) (s .pre .1) (mark .ensures)
+    (first .ensures) (l .i) (c .loop-test .left) (l .inv .2)
 
 pub put-send-spec : {M : Type 1} → statement M
 put-send-spec =

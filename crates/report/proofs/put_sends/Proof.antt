@@ -12,7 +12,9 @@ use Rattle.report.proofs.put_sends.Statement.{statement}
 use Rattle.report.proofs.put_sends.Tie as tie
 
 abbrev Inv-loop : tie.InvT-loop
-Inv-loop area₀ from nodes slots plan at₀ t₀ area at t = (t ≤ slots) × Putting area₀ from (sendLines nodes slots plan) area at (sendLines nodes (slots - t) (drop (t * nodes) plan))
+Inv-loop area₀ from nodes slots plan at₀ t₀ area at t =
+    (t ≤ slots) × Putting area₀ from (sendLines nodes slots plan) area at
+    (sendLines nodes (slots - t) (drop (t * nodes) plan))
 
 abbrev μ-loop : tie.MeasureT-loop
 μ-loop area₀ from nodes slots plan at₀ t₀ area at t = slots - t
@@ -20,17 +22,27 @@ abbrev μ-loop : tie.MeasureT-loop
 loop-holds : tie.Need-loop-holds Inv-loop μ-loop
 loop-holds c =
     let s = c .before .before in
-    let lines = sendLines (s .args .nodes) (s .args .slots) (s .args .plan .now) in
-    (omega arith, begun (s .args .area .now) (s .args .from) lines _ (s .pre .1) (all-sends (s .args .nodes) (s .args .slots) (s .args .plan .now)))
+    let lines = sendLines (s .args .nodes) (s .args .slots) (s .args .plan .now) in (
+      omega arith,
+      begun (s .args .area .now) (s .args .from) lines _ (s .pre .1)
+          (all-sends (s .args .nodes) (s .args .slots) (s .args .plan .now)),
+    )
 
 mul-base : tie.Need-mul-base Inv-loop μ-loop
-mul-base c = omega (arith, slot-small (c .before .before .before .before .pre .0) (c .before .loop .t) (c .loop-test .taken))
+mul-base c =
+    omega (arith, slot-small (c .before .before .before .before .pre .0) (c .before .loop .t) (c .loop-test .taken))
 
 add-end : tie.Need-add-end Inv-loop μ-loop
-add-end c = omega (arith, slot-small (c .before .before .before .before .pre .0) (c .before .loop .t) (c .loop-test .taken))
+add-end c =
+    omega (arith, slot-small (c .before .before .before .before .pre .0) (c .before .loop .t) (c .loop-test .taken))
 
 mul-put-send : tie.Need-mul-put-send Inv-loop μ-loop
-mul-put-send c = omega (arith, slot-small (c .before .before .before .before .before .pre .0) (c .before .before .loop .t) (c .before .loop-test .taken))
+mul-put-send c =
+    omega (
+      arith,
+      slot-small (c .before .before .before .before .before .pre .0) (c .before .before .loop .t)
+          (c .before .loop-test .taken),
+    )
 
 sub-put-send : tie.Need-sub-put-send Inv-loop μ-loop
 sub-put-send c = omega arith
@@ -39,7 +51,9 @@ part-put-send-start : tie.Need-part-put-send-start Inv-loop μ-loop
 part-put-send-start c = omega arith
 
 part-put-send-end : tie.Need-part-put-send-end Inv-loop μ-loop
-part-put-send-end c = slot-ends (c .before .before .before .before .before .pre .0) (c .before .before .loop .t) (c .before .loop-test .taken)
+part-put-send-end c =
+    slot-ends (c .before .before .before .before .before .pre .0) (c .before .before .loop .t)
+    (c .before .loop-test .taken)
 
 put-send-requires : tie.Need-put-send-requires Inv-loop μ-loop
 put-send-requires c κs =
@@ -57,14 +71,19 @@ loop-less c = search needs
 loop-again : tie.Need-loop-again Inv-loop μ-loop
 loop-again c =
     let s = c .before .before .before .before .before .before .before .before .before in
-    let l = c .before .before .before .before .before .before .loop in
-    (omega arith, send-put (s .pre .0) (l .t) (c .before .before .before .before .before .loop-test .taken) (l .inv .1) (c .before .before .put-send .ensures))
+    let l = c .before .before .before .before .before .before .loop in (
+      omega arith,
+      send-put (s .pre .0) (l .t) (c .before .before .before .before .before .loop-test .taken) (l .inv .1)
+          (c .before .before .put-send .ensures),
+    )
 
 same-length : tie.Need-same-length Inv-loop μ-loop
 same-length c = as-long (c .before .loop .inv .1)
 
 returns : tie.Need-returns Inv-loop μ-loop
-returns c = all-put (c .before .loop .inv .1) (no-send (c .before .before .before .before .pre .0) (c .before .loop .t) (c .loop-test .left))
+returns c =
+    all-put (c .before .loop .inv .1)
+    (no-send (c .before .before .before .before .pre .0) (c .before .loop .t) (c .loop-test .left))
 
 pub put-sends-spec : {M : Type 1} → statement M
 put-sends-spec =

@@ -10,7 +10,9 @@ slice-aggregate-put-line : tie.Need-slice-aggregate-put-line
 slice-aggregate-put-line c = search needs
 
 put-line-requires : tie.Need-put-line-requires
-put-line-requires c κs = let s = c .before .before .before .before in (answer-fits (s .args .area .now) (s .args .refusal) (s .pre), omega arith)
+put-line-requires c κs =
+    let s = c .before .before .before .before in
+    (answer-fits (s .args .area .now) (s .args .refusal) (s .pre), omega arith)
 
 slice-aggregate-put-line-2 : tie.Need-slice-aggregate-put-line-2
 slice-aggregate-put-line-2 c = search needs
@@ -37,7 +39,8 @@ same-length c = search needs
 returns : tie.Need-returns
 returns c =
     let s = c .before .before .before .before .before .before .before .before .before .before .before .before .before .before .before .before .before in
-    let one = c .before .before .before .before .before .before .before .before .before .before .before .before .put-line in
+    let one =
+    c .before .before .before .before .before .before .before .before .before .before .before .before .put-line in
     let two = c .before .before .before .before .before .before .before .put-line2 in
     let three = c .before .before .put-line3 in
     verdict-put (s .args .area .now) (s .args .refusal) (s .pre) (one .ensures) (two .ensures) (three .ensures)

@@ -1,4 +1,5 @@
--- `report::respond` meets its contract: a text that is not read gets its three lines, and a table what is printed for it.
+-- `report::respond` meets its contract: a text that is not read gets its three lines, and a table what is printed for
+-- it.
 -- Assumes nothing.
 use Rattle.report.proofs.Accepting.{verdict-fits}
 use Rattle.report.proofs.Responding.{not-read, read}
@@ -13,7 +14,9 @@ enum-known-reading : tie.Need-enum-known-reading
 enum-known-reading c = search needs
 
 put-verdict-requires : tie.Need-put-verdict-requires
-put-verdict-requires c κs = let s = c .before .before .before .before .before .before .before .before in verdict-fits (s .args .area .now) (c .before .before .reading .given .0 .0) (s .pre)
+put-verdict-requires c κs =
+    let s = c .before .before .before .before .before .before .before .before in
+    verdict-fits (s .args .area .now) (c .before .before .reading .given .0 .0) (s .pre)
 
 enum-known-reading-2 : tie.Need-enum-known-reading-2
 enum-known-reading-2 c = search needs
@@ -28,7 +31,8 @@ returns : tie.Need-returns
 returns c =
     let s = c .before .before .before .before .before .before .before .before .before .before .before in
     let parsed = c .before .before .before .before .before .before .before .before .parse in
-    not-read (s .args .text .now) (parsed .ensures .judged) (c .before .before .before .before .before .reading .given .1) (c .before .before .put-verdict .ensures)
+    not-read (s .args .text .now) (parsed .ensures .judged)
+    (c .before .before .before .before .before .reading .given .1) (c .before .before .put-verdict .ensures)
 
 same-length-2 : tie.Need-same-length-2
 same-length-2 c = search needs
@@ -37,7 +41,8 @@ returns-2 : tie.Need-returns-2
 returns-2 c =
     let s = c .before .before .before .before .before .before .before .before .before .before .before in
     let parsed = c .before .before .before .before .before .before .before .before .parse in
-    read (s .args .text .now) (parsed .ensures .judged) (c .before .before .before .before .before .reading2 .given .1) (parsed .ensures .rows) (c .before .before .respond-table .ensures)
+    read (s .args .text .now) (parsed .ensures .judged) (c .before .before .before .before .before .reading2 .given .1)
+    (parsed .ensures .rows) (c .before .before .respond-table .ensures)
 
 pub respond-spec : {M : Type 1} → statement M
 respond-spec =

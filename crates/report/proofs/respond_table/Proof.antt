@@ -1,7 +1,9 @@
 -- `report::respond_table` meets its contract: it plans the table, and writes what is printed for the answer.
 -- Assumes nothing.
 use native.Mathlib.Omega.{arith}
-use Rattle.report.proofs.Accepting.{Answered, verdict-fits, due-fits, due-front, entries-small, arrivals-fit, arrivals-front, plan-fits, plan-front, slotted, accepted-fits, refused-is, accepted-is}
+use Rattle.report.proofs.Accepting.{Answered, verdict-fits, due-fits, due-front, entries-small, arrivals-fit}
+use Rattle.report.proofs.Accepting.{arrivals-front, plan-fits, plan-front, slotted, accepted-fits, refused-is}
+use Rattle.report.proofs.Accepting.{accepted-is}
 use borrow.Author.Needs.{needs}
 use Rattle.report.proofs.respond_table.Statement.{statement}
 use Rattle.report.proofs.respond_table.Tie as tie
@@ -11,7 +13,8 @@ answered :
     (c : tie.After-plan-columns) →
     let s = c .before .before .before .before .before .before in
     let planned = c .plan-columns in
-    Answered (s .args .nodes) (s .args .rows) (s .args .columns) (planned .result) (planned .last .1 .1 .1 .0) (planned .last .1 .1 .1 .1 .0)
+    Answered (s .args .nodes) (s .args .rows) (s .args .columns) (planned .result) (planned .last .1 .1 .1 .0)
+    (planned .last .1 .1 .1 .1 .0)
 answered c =
     let s = c .before .before .before .before .before .before in
     record {
@@ -52,10 +55,14 @@ enum-known-answer-2 : tie.Need-enum-known-answer-2
 enum-known-answer-2 c = search needs
 
 array-share-prefix-due : tie.Need-array-share-prefix-due
-array-share-prefix-due c = due-fits (answered (c .before .before .before .before .before .before .before)) (c .before .before .before .answer2 .given .1)
+array-share-prefix-due c =
+    due-fits (answered (c .before .before .before .before .before .before .before))
+    (c .before .before .before .answer2 .given .1)
 
 slice-aggregate-greatest : tie.Need-slice-aggregate-greatest
-slice-aggregate-greatest c = due-front (answered (c .before .before .before .before .before .before .before .before)) (c .before .before .before .before .answer2 .given .1)
+slice-aggregate-greatest c =
+    due-front (answered (c .before .before .before .before .before .before .before .before))
+    (c .before .before .before .before .answer2 .given .1)
 
 greatest-requires : tie.Need-greatest-requires
 greatest-requires c κs = search needs
@@ -70,10 +77,15 @@ mul-entries c =
     omega (arith, entries-small k e (c .greatest .ensures))
 
 array-share-prefix-arrivals : tie.Need-array-share-prefix-arrivals
-array-share-prefix-arrivals c = arrivals-fit (answered (c .before .before .before .before .before .before .before .before .before .before)) (c .before .before .before .before .before .before .answer2 .given .1)
+array-share-prefix-arrivals c =
+    arrivals-fit (answered (c .before .before .before .before .before .before .before .before .before .before))
+    (c .before .before .before .before .before .before .answer2 .given .1)
 
 slice-aggregate-put-accepted : tie.Need-slice-aggregate-put-accepted
-slice-aggregate-put-accepted c = arrivals-front (answered (c .before .before .before .before .before .before .before .before .before .before .before)) (c .before .before .before .before .before .before .before .answer2 .given .1)
+slice-aggregate-put-accepted c =
+    arrivals-front
+    (answered (c .before .before .before .before .before .before .before .before .before .before .before))
+    (c .before .before .before .before .before .before .before .answer2 .given .1)
 
 array-share-prefix-plan : tie.Need-array-share-prefix-plan
 array-share-prefix-plan c =
@@ -83,14 +95,16 @@ array-share-prefix-plan c =
 
 slice-aggregate-put-accepted-2 : tie.Need-slice-aggregate-put-accepted-2
 slice-aggregate-put-accepted-2 c =
-    let k = answered (c .before .before .before .before .before .before .before .before .before .before .before .before) in
+    let k = answered (c .before .before .before .before .before .before .before .before .before .before .before .before)
+    in
     let e = c .before .before .before .before .before .before .before .before .answer2 .given .1 in
     plan-front k e (c .before .before .before .greatest .ensures)
 
 put-accepted-requires : tie.Need-put-accepted-requires
 put-accepted-requires c κs =
     let s = c .before .before .before .before .before .before .before .before .before .before .before .before .before .before .before .before .before .before in
-    let k = answered (c .before .before .before .before .before .before .before .before .before .before .before .before) in
+    let k = answered (c .before .before .before .before .before .before .before .before .before .before .before .before)
+    in
     let e = c .before .before .before .before .before .before .before .before .answer2 .given .1 in
     let found = c .before .before .before .greatest .ensures in
     (slotted k e found, accepted-fits k e found (s .args .area .now) (s .pre))
@@ -101,15 +115,18 @@ same-length c = search needs
 returns : tie.Need-returns
 returns c =
     let k = answered (c .before .before .before .before .before .before .before .before .before) in
-    rw (refused-is k (c .before .before .before .before .before .answer .given .1)) (c .before .before .put-verdict .ensures)
+    rw (refused-is k (c .before .before .before .before .before .answer .given .1))
+    (c .before .before .put-verdict .ensures)
 
 same-length-2 : tie.Need-same-length-2
 same-length-2 c = search needs
 
 returns-2 : tie.Need-returns-2
 returns-2 c =
-    let k = answered (c .before .before .before .before .before .before .before .before .before .before .before .before .before .before .before) in
-    let e = c .before .before .before .before .before .before .before .before .before .before .before .answer2 .given .1 in
+    let k = answered
+    (c .before .before .before .before .before .before .before .before .before .before .before .before .before .before .before) in
+    let e = c .before .before .before .before .before .before .before .before .before .before .before .answer2 .given .1
+    in
     let found = c .before .before .before .before .before .before .greatest .ensures in
     rw (accepted-is k e found) (c .before .before .put-accepted .ensures)
 

@@ -11,7 +11,9 @@ print-slots-requires : tie.Need-print-slots-requires
 print-slots-requires c κs = search needs
 
 slice-aggregate-print-slot : tie.Need-slice-aggregate-print-slot
-slice-aggregate-print-slot c = sym (length-take-le (c .before .before .before .before .args .nodes) (c .before .before .before .before .args .plan .now) (omega arith))
+slice-aggregate-print-slot c =
+    sym (length-take-le (c .before .before .before .before .args .nodes)
+    (c .before .before .before .before .args .plan .now) (omega arith))
 
 print-slot-requires : tie.Need-print-slot-requires
 print-slot-requires c κs = search needs

@@ -12,7 +12,8 @@ use Rattle.table.proofs.judge_rows.Statement.{statement}
 use Rattle.table.proofs.judge_rows.Tie as tie
 
 abbrev Inv-loop : tie.InvT-loop
-Inv-loop nodes src dst due i₀ i = (i ≤ length src) × (judgeRows nodes (rowsOf src dst due) 0 ≡ judgeRows nodes (drop i (rowsOf src dst due)) i)
+Inv-loop nodes src dst due i₀ i =
+    (i ≤ length src) × (judgeRows nodes (rowsOf src dst due) 0 ≡ judgeRows nodes (drop i (rowsOf src dst due)) i)
 
 abbrev μ-loop : tie.MeasureT-loop
 μ-loop nodes src dst due i₀ i = length src - i
@@ -36,7 +37,8 @@ mul-t15 : tie.Need-mul-t15 Inv-loop μ-loop
 mul-t15 c = omega arith
 
 shared-slice-read-t17 : tie.Need-shared-slice-read-t17 Inv-loop μ-loop
-shared-slice-read-t17 c = omega (arith, c .before .before .before .before .before .before .before .before .pre .due-each)
+shared-slice-read-t17 c =
+    omega (arith, c .before .before .before .before .before .before .before .before .pre .due-each)
 
 row-refusal-requires : tie.Need-row-refusal-requires Inv-loop μ-loop
 row-refusal-requires c κs = tt
@@ -53,8 +55,12 @@ returns c =
     let rows = rowsOf (a .src .now) (a .dst .now) (a .due .now) in
     let i = c .before .before .before .before .before .before .loop .i in
     let long = rows-long (a .src .now) (a .dst .now) (a .due .now) in
-    let at : rowRefusal (a .nodes) (getD rows i none) ≡ c .before .row-refusal .result = ap (rowRefusal (a .nodes)) (rows-at (a .src .now) (a .dst .now) (a .due .now) i (omega arith)) ∙ sym (c .before .row-refusal .ensures) in
-    sym (c .before .before .before .before .before .before .loop .inv .1 ∙ judge-here (a .nodes) rows i (omega arith) (λ e. c .if1 .taken (sym at ∙ e)) ∙ ap (λ k. Refused (refuse k (i + 1) 0)) at)
+    let at : rowRefusal (a .nodes) (getD rows i none) ≡ c .before .row-refusal .result =
+    ap (rowRefusal (a .nodes)) (rows-at (a .src .now) (a .dst .now) (a .due .now) i (omega arith))
+    ∙ sym (c .before .row-refusal .ensures) in
+    sym (c .before .before .before .before .before .before .loop .inv .1
+    ∙ judge-here (a .nodes) rows i (omega arith) (λ e. c .if1 .taken (sym at ∙ e))
+    ∙ ap (λ k. Refused (refuse k (i + 1) 0)) at)
 
 add-i : tie.Need-add-i Inv-loop μ-loop
 add-i c = omega arith
@@ -68,8 +74,13 @@ loop-again c =
     let rows = rowsOf (a .src .now) (a .dst .now) (a .due .now) in
     let i = c .before .before .before .before .before .before .loop .i in
     let long = rows-long (a .src .now) (a .dst .now) (a .due .now) in
-    let at : rowRefusal (a .nodes) (getD rows i none) ≡ c .before .row-refusal .result = ap (rowRefusal (a .nodes)) (rows-at (a .src .now) (a .dst .now) (a .due .now) i (omega arith)) ∙ sym (c .before .row-refusal .ensures) in
-    (omega arith, c .before .before .before .before .before .before .loop .inv .1 ∙ judge-next (a .nodes) rows i (omega arith) (at ∙ c .if1 .left))
+    let at : rowRefusal (a .nodes) (getD rows i none) ≡ c .before .row-refusal .result =
+    ap (rowRefusal (a .nodes)) (rows-at (a .src .now) (a .dst .now) (a .due .now) i (omega arith))
+    ∙ sym (c .before .row-refusal .ensures) in (
+      omega arith,
+      c .before .before .before .before .before .before .loop .inv .1
+          ∙ judge-next (a .nodes) rows i (omega arith) (at ∙ c .if1 .left),
+    )
 
 returns-2 : tie.Need-returns-2 Inv-loop μ-loop
 returns-2 c =

@@ -11,7 +11,9 @@ use Rattle.table.proofs.measure.Statement.{statement}
 use Rattle.table.proofs.measure.Tie as tie
 
 abbrev Inv-loop : tie.InvT-loop
-Inv-loop nodes src dst left₀ i₀ left i = (i ≤ length left₀) × (length left ≡ length left₀) × (left ≡ filled (λ j. distance nodes (getD src j 0) (getD dst j 0)) left₀ i)
+Inv-loop nodes src dst left₀ i₀ left i =
+    (i ≤ length left₀) × (length left ≡ length left₀)
+    × (left ≡ filled (λ j. distance nodes (getD src j 0) (getD dst j 0)) left₀ i)
 
 abbrev μ-loop : tie.MeasureT-loop
 μ-loop nodes src dst left₀ i₀ left i = length left₀ - i
@@ -29,12 +31,18 @@ mul-t12 : tie.Need-mul-t12 Inv-loop μ-loop
 mul-t12 c = omega arith
 
 shared-slice-read-t14 : tie.Need-shared-slice-read-t14 Inv-loop μ-loop
-shared-slice-read-t14 c = omega (arith, c .before .before .before .before .before .before .before .pre .left-each, c .before .before .before .before .before .before .before .pre .dst-each)
+shared-slice-read-t14 c =
+    omega (
+      arith,
+      c .before .before .before .before .before .before .before .pre .left-each,
+      c .before .before .before .before .before .before .before .pre .dst-each,
+    )
 
 links-between-requires : tie.Need-links-between-requires Inv-loop μ-loop
 links-between-requires c κs =
     let k = c .before .before .before .before .before .before .before .pre in
-    let small : c .before .before .before .loop .i < length (c .before .before .before .before .before .before .before .args .src .now) = omega (arith, k .left-each) in
+    let small : c .before .before .before .loop .i < length
+    (c .before .before .before .before .before .before .before .args .src .now) = omega (arith, k .left-each) in
     (k .src-inside (c .before .before .before .loop .i) small, k .dst-inside (c .before .before .before .loop .i) small)
 
 mul-left : tie.Need-mul-left Inv-loop μ-loop
@@ -52,8 +60,14 @@ loop-less c = omega arith
 loop-again : tie.Need-loop-again Inv-loop μ-loop
 loop-again c =
     let a = c .before .before .before .before .before .before .before .before .args in
-    let links : ℕ → ℕ = λ j. distance (a .nodes) (getD (a .src .now) j 0) (getD (a .dst .now) j 0) in
-    (omega arith, simp length-set (c .before .before .before .before .loop .inv .1), ap (λ l. set l (c .before .before .before .before .loop .i) (c .links-between .result .0)) (c .before .before .before .before .loop .inv .2) ∙ rw (c .links-between .ensures) (filled-more links (a .left .now) (c .before .before .before .before .loop .i) (omega arith)))
+    let links : ℕ → ℕ = λ j. distance (a .nodes) (getD (a .src .now) j 0) (getD (a .dst .now) j 0) in (
+      omega arith,
+      simp length-set (c .before .before .before .before .loop .inv .1),
+      ap (λ l. set l (c .before .before .before .before .loop .i) (c .links-between .result .0))
+          (c .before .before .before .before .loop .inv .2)
+          ∙ rw (c .links-between .ensures)
+          (filled-more links (a .left .now) (c .before .before .before .before .loop .i) (omega arith)),
+    )
 
 same-length : tie.Need-same-length Inv-loop μ-loop
 same-length c = c .before .loop .inv .1
@@ -63,7 +77,8 @@ returns c =
     let a = c .before .before .before .before .before .args in
     let links : ℕ → ℕ = λ j. distance (a .nodes) (getD (a .src .now) j 0) (getD (a .dst .now) j 0) in
     let all : c .before .loop .i ≡ length (a .left .now) = omega arith in
-    c .before .loop .inv .2 ∙ ap (filled links (a .left .now)) all ∙ filled-all links (a .left .now) ∙ ap (λ n. build n links) (c .before .before .before .before .before .pre .left-each)
+    c .before .loop .inv .2 ∙ ap (filled links (a .left .now)) all ∙ filled-all links (a .left .now)
+    ∙ ap (λ n. build n links) (c .before .before .before .before .before .pre .left-each)
 
 pub measure-spec : {M : Type 1} → statement M
 measure-spec =

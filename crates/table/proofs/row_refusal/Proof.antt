@@ -18,22 +18,43 @@ returns-2 c =
 returns-3 : tie.Need-returns-3
 unfolding rowRefusal
 returns-3 c =
-    simp (lt-leb _ _ (c .before .before .before .before .if1 .left), lt-leb _ _ (c .before .before .if2 .left), eq-eqb _ _ (c .if3 .taken))
+    simp (
+      lt-leb _ _ (c .before .before .before .before .if1 .left),
+      lt-leb _ _ (c .before .before .if2 .left),
+      eq-eqb _ _ (c .if3 .taken),
+    )
 
 returns-4 : tie.Need-returns-4
 unfolding rowRefusal
 returns-4 c =
-    simp (lt-leb _ _ (c .before .before .before .before .before .before .if1 .left), lt-leb _ _ (c .before .before .before .before .if2 .left), ne-eqb _ _ (c .before .before .if3 .left), eq-eqb _ _ (c .if4 .taken))
+    simp (
+      lt-leb _ _ (c .before .before .before .before .before .before .if1 .left),
+      lt-leb _ _ (c .before .before .before .before .if2 .left),
+      ne-eqb _ _ (c .before .before .if3 .left),
+      eq-eqb _ _ (c .if4 .taken),
+    )
 
 returns-5 : tie.Need-returns-5
 unfolding rowRefusal
 returns-5 c =
-    simp (lt-leb _ _ (c .before .before .before .before .before .before .before .before .if1 .left), lt-leb _ _ (c .before .before .before .before .before .before .if2 .left), ne-eqb _ _ (c .before .before .before .before .if3 .left), ne-eqb _ _ (c .before .before .if4 .left), lt-ltb _ _ (c .if5 .taken))
+    simp (
+      lt-leb _ _ (c .before .before .before .before .before .before .before .before .if1 .left),
+      lt-leb _ _ (c .before .before .before .before .before .before .if2 .left),
+      ne-eqb _ _ (c .before .before .before .before .if3 .left),
+      ne-eqb _ _ (c .before .before .if4 .left),
+      lt-ltb _ _ (c .if5 .taken),
+    )
 
 returns-6 : tie.Need-returns-6
 unfolding rowRefusal
 returns-6 c =
-    simp (lt-leb _ _ (c .before .before .before .before .before .before .before .before .if1 .left), lt-leb _ _ (c .before .before .before .before .before .before .if2 .left), ne-eqb _ _ (c .before .before .before .before .if3 .left), ne-eqb _ _ (c .before .before .if4 .left), le-ltb _ _ (c .if5 .left))
+    simp (
+      lt-leb _ _ (c .before .before .before .before .before .before .before .before .if1 .left),
+      lt-leb _ _ (c .before .before .before .before .before .before .if2 .left),
+      ne-eqb _ _ (c .before .before .before .before .if3 .left),
+      ne-eqb _ _ (c .before .before .if4 .left),
+      le-ltb _ _ (c .if5 .left),
+    )
 
 pub row-refusal-spec : {M : Type 1} → statement M
 row-refusal-spec = tie.close (tie.spec returns returns-2 returns-3 returns-4 returns-5 returns-6)

@@ -35,7 +35,8 @@ add-result c = omega arith
 
 returns : tie.Need-returns Inv-loop μ-loop
 returns c =
-    let all : tenth (c .before .before .args .behind) (c .before .before .args .v) ≡ c .before .loop .rest = tenth-done _ _ _ _ (c .loop-test .left) (c .before .loop .inv .1) in
+    let all : tenth (c .before .before .args .behind) (c .before .before .args .v) ≡ c .before .loop .rest =
+    tenth-done _ _ _ _ (c .loop-test .left) (c .before .loop .inv .1) in
     rw all
 
 pub digit-spec : {M : Type 1} → statement M

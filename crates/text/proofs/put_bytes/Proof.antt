@@ -37,8 +37,12 @@ loop-less c = search needs
 loop-again : tie.Need-loop-again Inv-loop μ-loop
 loop-again c =
     let start = c .before .before .before in
-    let k = c .before .before .loop in
-    (omega arith, simp length-set (k .inv .1), put-more (start .args .area .now) (start .args .at) (start .args .bytes .now) (start .pre) (k .j) (k .area) _ (omega arith) refl (k .inv .2))
+    let k = c .before .before .loop in (
+      omega arith,
+      simp length-set (k .inv .1),
+      put-more (start .args .area .now) (start .args .at) (start .args .bytes .now) (start .pre) (k .j) (k .area) _
+          (omega arith) refl (k .inv .2),
+    )
 
 add-result : tie.Need-add-result Inv-loop μ-loop
 add-result c = search needs
@@ -49,8 +53,11 @@ same-length c = c .before .loop .inv .1
 returns : tie.Need-returns Inv-loop μ-loop
 returns c =
     let start = c .before .before in
-    let k = c .before .loop in
-    (refl, put-all (start .args .area .now) (start .args .at) (start .args .bytes .now) (start .pre) (k .j) (k .area) (omega arith) (k .inv .2))
+    let k = c .before .loop in (
+      refl,
+      put-all (start .args .area .now) (start .args .at) (start .args .bytes .now) (start .pre) (k .j) (k .area)
+          (omega arith) (k .inv .2),
+    )
 
 pub put-bytes-spec : {M : Type 1} → statement M
 put-bytes-spec =

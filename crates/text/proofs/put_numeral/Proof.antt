@@ -13,7 +13,8 @@ use Rattle.text.proofs.put_numeral.Statement.{statement}
 use Rattle.text.proofs.put_numeral.Tie as tie
 
 abbrev Inv-loop : tie.InvT-loop
-Inv-loop area₀ at v w j₀ area j = (j ≤ w) × (length area ≡ length area₀) × (area ≡ paste area₀ at (numeral v) j) × (w ≡ length (numeral v))
+Inv-loop area₀ at v w j₀ area j =
+    (j ≤ w) × (length area ≡ length area₀) × (area ≡ paste area₀ at (numeral v) j) × (w ≡ length (numeral v))
 
 abbrev μ-loop : tie.MeasureT-loop
 μ-loop area₀ at v w j₀ area j = w - j
@@ -23,8 +24,12 @@ width-of-requires c κs = search needs
 
 loop-holds : tie.Need-loop-holds Inv-loop μ-loop
 loop-holds c =
-    let start = c .before .before in
-    (omega arith, refl, paste-zero (start .args .area .now) (start .args .at) (numeral (start .args .v)), c .width-of .ensures ∙ sym (numeral-length (start .args .v)))
+    let start = c .before .before in (
+      omega arith,
+      refl,
+      paste-zero (start .args .area .now) (start .args .at) (numeral (start .args .v)),
+      c .width-of .ensures ∙ sym (numeral-length (start .args .v)),
+    )
 
 sub-digit : tie.Need-sub-digit Inv-loop μ-loop
 sub-digit c = search needs
@@ -52,8 +57,14 @@ loop-again c =
     let start = c .before .before .before .before .before in
     let w = c .before .before .before .width-of in
     let k = c .before .before .loop in
-    let all = k .inv .3 in
-    (omega arith, simp length-set (k .inv .1), put-more (start .args .area .now) (start .args .at) (numeral (start .args .v)) (start .pre) (k .j) (k .area) (c .digit .result) (omega arith) (c .digit .ensures ∙ numeral-byte (start .args .v) (k .j) (w .result) (w .ensures) (omega arith)) (k .inv .2), k .inv .3)
+    let all = k .inv .3 in (
+      omega arith,
+      simp length-set (k .inv .1),
+      put-more (start .args .area .now) (start .args .at) (numeral (start .args .v)) (start .pre) (k .j) (k .area)
+          (c .digit .result) (omega arith)
+          (c .digit .ensures ∙ numeral-byte (start .args .v) (k .j) (w .result) (w .ensures) (omega arith)) (k .inv .2),
+      k .inv .3,
+    )
 
 add-result : tie.Need-add-result Inv-loop μ-loop
 add-result c = search needs
@@ -65,8 +76,11 @@ returns : tie.Need-returns Inv-loop μ-loop
 returns c =
     let start = c .before .before .before .before in
     let k = c .before .loop in
-    let all = k .inv .3 in
-    (omega arith, put-all (start .args .area .now) (start .args .at) (numeral (start .args .v)) (start .pre) (k .j) (k .area) (omega arith) (k .inv .2))
+    let all = k .inv .3 in (
+      omega arith,
+      put-all (start .args .area .now) (start .args .at) (numeral (start .args .v)) (start .pre) (k .j)
+          (k .area) (omega arith) (k .inv .2),
+    )
 
 pub put-numeral-spec : {M : Type 1} → statement M
 put-numeral-spec =

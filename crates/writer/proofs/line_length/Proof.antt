@@ -17,7 +17,8 @@ add-result-2 : tie.Need-add-result-2
 add-result-2 c = omega (arith, width-most (c .before .before .args .v), c .width-of .ensures)
 
 returns : tie.Need-returns
-returns c = omega (arith, line-length (c .before .before .args .key .now) (c .before .before .args .v), c .width-of .ensures)
+returns c =
+    omega (arith, line-length (c .before .before .args .key .now) (c .before .before .args .v), c .width-of .ensures)
 
 pub line-length-spec : {M : Type 1} → statement M
 line-length-spec = tie.close (tie.spec width-of-requires add-result add-result-2 returns)

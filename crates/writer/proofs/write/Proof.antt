@@ -1,4 +1,5 @@
--- `writer::write` meets its contract: lent rows and one area, by the law of `lent`. What `write_columns` says of the columns is what is promised of the rows (`Lent.antt`).
+-- `writer::write` meets its contract: lent rows and one area, by the law of `lent`. What `write_columns` says of the
+-- columns is what is promised of the rows (`Lent.antt`).
 -- Assumes nothing.
 use mathlib.Core.Path.{_≡_}
 use mathlib.Core.List.{List, [], _∷_}

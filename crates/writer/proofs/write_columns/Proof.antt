@@ -56,10 +56,14 @@ rows-length-requires c κs = search needs
 
 add-length : tie.Need-add-length
 add-length c =
-    let nodes = c .before .before .before .before .before .before .before .before .before .before .before .before .before .args .nodes in
-    let rows = c .before .before .before .before .before .before .before .before .before .before .before .before .before .args .rows in
-    let columns = c .before .before .before .before .before .before .before .before .before .before .before .before .before .args .columns in
-    let area = c .before .before .before .before .before .before .before .before .before .before .before .before .before .args .area .now in
+    let nodes =
+    c .before .before .before .before .before .before .before .before .before .before .before .before .before .args .nodes in
+    let rows =
+    c .before .before .before .before .before .before .before .before .before .before .before .before .before .args .rows in
+    let columns =
+    c .before .before .before .before .before .before .before .before .before .before .before .before .before .args .columns in
+    let area =
+    c .before .before .before .before .before .before .before .before .before .before .before .before .before .args .area .now in
     let l1 = c .before .before .before .before .before .before .line-length in
     let l2 = c .before .before .before .before .line-length2 in
     let l3 = c .rows-length in
@@ -71,15 +75,28 @@ not-written-requires-2 c κs = search needs
 
 returns-2 : tie.Need-returns-2
 returns-2 c =
-    let nodes = c .before .before .before .before .before .before .before .before .before .before .before .before .before .before .before .args .nodes in
-    let rows = c .before .before .before .before .before .before .before .before .before .before .before .before .before .before .before .args .rows in
-    let columns = c .before .before .before .before .before .before .before .before .before .before .before .before .before .before .before .args .columns in
-    let area = c .before .before .before .before .before .before .before .before .before .before .before .before .before .before .before .args .area .now in
+    let nodes =
+    c .before .before .before .before .before .before .before .before .before .before .before .before .before .before .before .args .nodes in
+    let rows =
+    c .before .before .before .before .before .before .before .before .before .before .before .before .before .before .before .args .rows in
+    let columns =
+    c .before .before .before .before .before .before .before .before .before .before .before .before .before .before .before .args .columns in
+    let area =
+    c .before .before .before .before .before .before .before .before .before .before .before .before .before .before .before .args .area .now in
     let l1 = c .before .before .before .before .before .before .before .before .line-length in
     let l2 = c .before .before .before .before .before .before .line-length2 in
     let l3 = c .before .before .rows-length in
-    let few = c .before .before .before .before .before .before .before .before .before .before .before .before .before .if1 .left in
-    let so = no-room nodes rows columns area few (omega (arith, text-length nodes rows columns area, l1 .ensures, l2 .ensures, l3 .ensures, c .before .if2 .taken)) in
+    let few =
+    c .before .before .before .before .before .before .before .before .before .before .before .before .before .if1 .left in
+    let so = no-room nodes rows columns area few
+    (omega (
+      arith,
+      text-length nodes rows columns area,
+      l1 .ensures,
+      l2 .ensures,
+      l3 .ensures,
+      c .before .if2 .taken,
+    )) in
     (c .not-written2 .ensures ∙ so .0, so .1)
 
 slice-aggregate-put-line : tie.Need-slice-aggregate-put-line
@@ -102,24 +119,42 @@ same-length c = search needs
 
 returns-3 : tie.Need-returns-3
 returns-3 c =
-    let nodes = c .before .before .before .before .before .before .before .before .before .before .before .before .before .before .before .before .before .before .before .before .before .before .before .before .before .before .before .before .before .before .before .args .nodes in
-    let rows = c .before .before .before .before .before .before .before .before .before .before .before .before .before .before .before .before .before .before .before .before .before .before .before .before .before .before .before .before .before .before .before .args .rows in
-    let columns = c .before .before .before .before .before .before .before .before .before .before .before .before .before .before .before .before .before .before .before .before .before .before .before .before .before .before .before .before .before .before .before .args .columns in
-    let area = c .before .before .before .before .before .before .before .before .before .before .before .before .before .before .before .before .before .before .before .before .before .before .before .before .before .before .before .before .before .before .before .args .area .now in
+    let nodes =
+    c .before .before .before .before .before .before .before .before .before .before .before .before .before .before .before .before .before .before .before .before .before .before .before .before .before .before .before .before .before .before .before .args .nodes in
+    let rows =
+    c .before .before .before .before .before .before .before .before .before .before .before .before .before .before .before .before .before .before .before .before .before .before .before .before .before .before .before .before .before .before .before .args .rows in
+    let columns =
+    c .before .before .before .before .before .before .before .before .before .before .before .before .before .before .before .before .before .before .before .before .before .before .before .before .before .before .before .before .before .before .before .args .columns in
+    let area =
+    c .before .before .before .before .before .before .before .before .before .before .before .before .before .before .before .before .before .before .before .before .before .before .before .before .before .before .before .before .before .before .before .args .area .now in
     let l1 = c .before .before .before .before .before .before .before .before .before .before .before .before .before .before .before .before .before .before .before .before .before .before .before .before .line-length in
     let l2 = c .before .before .before .before .before .before .before .before .before .before .before .before .before .before .before .before .before .before .before .before .before .before .line-length2 in
     let l3 = c .before .before .before .before .before .before .before .before .before .before .before .before .before .before .before .before .before .before .rows-length in
-    let few = c .before .before .before .before .before .before .before .before .before .before .before .before .before .before .before .before .before .before .before .before .before .before .before .before .before .before .before .before .before .if1 .left in
+    let few =
+    c .before .before .before .before .before .before .before .before .before .before .before .before .before .before .before .before .before .before .before .before .before .before .before .before .before .before .before .before .before .if1 .left in
     let p1 = c .before .before .before .before .before .before .before .before .before .before .before .before .before .before .put-line in
     let p2 = c .before .before .before .before .before .before .before .before .before .put-line2 in
     let p3 = c .before .before .put-rows in
     let a = line nodes-key nodes in
     let b = line rows-key rows in
     let d = rowsText (listed rows columns) in
-    let total : l1 .result + l2 .result + l3 .result ≡ length (textOf nodes (listed rows columns)) = omega (arith, text-length nodes rows columns area, l1 .ensures, l2 .ensures, l3 .ensures) in
-    let so = room nodes rows columns area few (omega (arith, total, c .before .before .before .before .before .before .before .before .before .before .before .before .before .before .before .before .before .if2 .left)) in
-    let fits : 0 + (length a + length b + length d) ≤ length area = omega (arith, total, text-length nodes rows columns area, c .before .before .before .before .before .before .before .before .before .before .before .before .before .before .before .before .before .if2 .left) in
-    let placed = three-placed area 0 a b d fits (p1 .result) (p1 .last .0) (p1 .ensures .0) (p1 .ensures .1) (p2 .result) (p2 .last .0) (p2 .ensures .0) (p2 .ensures .1) (p3 .last .0) (p3 .ensures) in
+    let total : l1 .result + l2 .result + l3 .result ≡ length (textOf nodes (listed rows columns)) =
+    omega (arith, text-length nodes rows columns area, l1 .ensures, l2 .ensures, l3 .ensures) in
+    let so = room nodes rows columns area few
+    (omega (
+      arith,
+      total,
+      c .before .before .before .before .before .before .before .before .before .before .before .before .before .before .before .before .before .if2 .left,
+    )) in
+    let fits : 0 + (length a + length b + length d) ≤ length area =
+    omega (
+      arith,
+      total,
+      text-length nodes rows columns area,
+      c .before .before .before .before .before .before .before .before .before .before .before .before .before .before .before .before .before .if2 .left,
+    ) in
+    let placed = three-placed area 0 a b d fits (p1 .result) (p1 .last .0) (p1 .ensures .0) (p1 .ensures .1)
+    (p2 .result) (p2 .last .0) (p2 .ensures .0) (p2 .ensures .1) (p3 .last .0) (p3 .ensures) in
     (ap Written total ∙ so .0, placed ∙ pasted-text nodes rows columns area few ∙ so .1)
 
 pub write-columns-spec : {M : Type 1} → statement M
