@@ -14,9 +14,9 @@ use Rattle.area.specs.declared.LinkLoad.{LinkLoad}
 use Rattle.area.specs.Area.{crosses, load, rowNumbers, rowBy, numbers, laid, areaOf, loadIn, rowIn, rowsIn, loadsIn}
 use Rattle.area.specs.Area.{busiestIn, rows-begin, room}
 use Rattle.edit.specs.declared.Entry.the-variants as entry
-use Rattle.judge.specs.Judge.{Edit, Add, Change, Remove, firstOf, sizeRefusal, numberRefusal, refusalOf}
-use Rattle.judge.specs.Judge.{rowNamed, verdictBy}
-use Rattle.store.specs.Store.{rowsAfter, stepBy, stepFor, loadAfter, behindAfter, edited}
+use Rattle.edit_judge.specs.Judge.{Edit, Add, Change, Remove, firstOf, sizeRefusal, numberRefusal, refusalOf}
+use Rattle.edit_judge.specs.Judge.{rowNamed, verdictBy}
+use Rattle.edit_store.specs.Store.{rowsAfter, stepBy, stepFor, loadAfter, behindAfter, edited}
 use Rattle.edit.specs.Edit.{editRefusal, aboutRow, areaAfter, entryOf}
 
 -- A row by source, destination and due slot; a refusal of an edit; a link and its load.

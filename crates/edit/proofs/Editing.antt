@@ -26,9 +26,9 @@ use Rattle.area.specs.Area.{nodesIn, countIn, loadIn, rowIn, rowsIn}
 use Rattle.area.proofs.Areas.{nodes-in-area, count-in-area, load-in-area, row-in-area, rows-in-area, behind-area}
 use Rattle.area.proofs.Areas.{laid-long, laid-ext, rows-counted}
 use Rattle.area.proofs.Loads.{counted, load-between, load-more, load-few}
-use Rattle.judge.specs.Judge.{Edit, Add, Change, Remove, refusalOf}
-use Rattle.judge.proofs.Refusals.{Fits, edit-fits}
-use Rattle.store.specs.Store.{rowsAfter, stepBy, stepFor, loadAfter, behindAfter, edited}
+use Rattle.edit_judge.specs.Judge.{Edit, Add, Change, Remove, refusalOf}
+use Rattle.edit_judge.proofs.Refusals.{Fits, edit-fits}
+use Rattle.edit_store.specs.Store.{rowsAfter, stepBy, stepFor, loadAfter, behindAfter, edited}
 use Rattle.edit.specs.Edit.{editRefusal, areaAfter, rowsBy}
 use Rattle.edit.proofs.RowsAfter.{countAfter, rows-after-long}
 

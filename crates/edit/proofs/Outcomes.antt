@@ -18,10 +18,10 @@ use Rattle.table.specs.declared.Refusal.{Refusal}
 use Rattle.table.specs.declared.Verdict.the-variants.{Good, Refused}
 use Rattle.table.specs.Table.{most-rows, rowRefusal, refuse}
 use Rattle.area.specs.Area.{most-links, row-width, room, load, numbers, laid, areaOf, nodesIn, countIn, rowIn}
-use Rattle.judge.specs.Judge.{Edit, Add, Change, Remove, firstOf, sizeRefusal, refusalOf, rowNamed, verdictBy}
-use Rattle.judge.proofs.Refusals.{Sized, Fits, edit-fits}
-use Rattle.store.specs.Store.{stepBy, edited}
-use Rattle.store.specs.Steps.{Roomy, There}
+use Rattle.edit_judge.specs.Judge.{Edit, Add, Change, Remove, firstOf, sizeRefusal, refusalOf, rowNamed, verdictBy}
+use Rattle.edit_judge.proofs.Refusals.{Sized, Fits, edit-fits}
+use Rattle.edit_store.specs.Store.{stepBy, edited}
+use Rattle.edit_store.specs.Steps.{Roomy, There}
 use Rattle.edit.specs.declared.Entry.the-variants as entry
 use Rattle.edit.specs.Edit.{editRefusal, aboutRow, areaAfter, Opened, Edited, entryOf}
 

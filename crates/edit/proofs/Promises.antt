@@ -37,9 +37,9 @@ use Rattle.area.proofs.Loads.{load-more, load-few}
 use Rattle.area.proofs.GoodRows.{AllGood}
 use Rattle.area.proofs.Ways.{loads-sum-to-sends}
 use Rattle.area.proofs.Promises.{Busiest, busiest-built}
-use Rattle.judge.specs.Judge.{Edit, Add, Change, Remove, sizeRefusal, verdictBy}
-use Rattle.judge.proofs.Refusals.{size-of, size-fits, Fits, edit-fits, well-formed}
-use Rattle.store.specs.Store.{rowsAfter, stepFor, loadAfter, behindAfter, edited}
+use Rattle.edit_judge.specs.Judge.{Edit, Add, Change, Remove, sizeRefusal, verdictBy}
+use Rattle.edit_judge.proofs.Refusals.{size-of, size-fits, Fits, edit-fits, well-formed}
+use Rattle.edit_store.specs.Store.{rowsAfter, stepFor, loadAfter, behindAfter, edited}
 use Rattle.edit.specs.Edit.{editRefusal, aboutRow, areaAfter, Opened, Edited, afterEdits, rowsBy}
 use Rattle.edit.proofs.RowsAfter.{few-after, good-after}
 use Rattle.edit.proofs.Editing.{load-fewer, load-changed, edited-area, rowsNext, area-after, keeps-next, keeps}

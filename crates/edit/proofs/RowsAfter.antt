@@ -11,9 +11,9 @@ use lib.Seq.{length-take-le}
 use Rattle.table.specs.declared.Row.{Row}
 use Rattle.table.specs.Table.{most-rows}
 use Rattle.area.proofs.GoodRows.{AllGood, good-append, good-split}
-use Rattle.judge.specs.Judge.{Edit, Add, Change, Remove}
-use Rattle.judge.proofs.Refusals.{Fits}
-use Rattle.store.specs.Store.{rowsAfter}
+use Rattle.edit_judge.specs.Judge.{Edit, Add, Change, Remove}
+use Rattle.edit_judge.proofs.Refusals.{Fits}
+use Rattle.edit_store.specs.Store.{rowsAfter}
 
 -- The rows above row k.
 above-long : (rows : List Row) (k : ℕ) → k ≤ length rows → length (take (k - 1) rows) ≡ k - 1

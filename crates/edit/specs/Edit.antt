@@ -11,8 +11,8 @@ use Rattle.table.specs.declared.Row.{Row}
 use Rattle.table.specs.declared.Verdict.{Verdict}
 use Rattle.table.specs.Table.{refuse}
 use Rattle.area.specs.Area.{areaOf, nodesIn, countIn, rowIn}
-use Rattle.judge.specs.Judge.{Edit, Add, Change, Remove, sizeRefusal, refusalOf, rowNamed, verdictBy}
-use Rattle.store.specs.Store.{rowsAfter, edited}
+use Rattle.edit_judge.specs.Judge.{Edit, Add, Change, Remove, sizeRefusal, refusalOf, rowNamed, verdictBy}
+use Rattle.edit_store.specs.Store.{rowsAfter, edited}
 use Rattle.edit.specs.declared.Entry.{Entry}
 use Rattle.edit.specs.declared.Entry.the-variants as entry
 

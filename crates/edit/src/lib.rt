@@ -1,20 +1,20 @@
 // Editing a table at the panel: rows added, changed and removed one by one in a lent area that also keeps the load of
 // each link.
 ghost use mathlib.Core.Path.{_≡_};
-ghost use Rattle.judge.specs.Judge.{Add, Change, Remove};
+ghost use Rattle.edit_judge.specs.Judge.{Add, Change, Remove};
 ghost use Rattle.edit.specs.Edit.{Opened, Edited, entryOf};
 use area::Area;
 use area::row_in;
-use judge::add_refusal;
-use judge::change_refusal;
-use judge::number_refusal;
-use judge::refusal;
-use judge::size_refusal;
+use edit_judge::add_refusal;
+use edit_judge::change_refusal;
+use edit_judge::number_refusal;
+use edit_judge::refusal;
+use edit_judge::size_refusal;
+use edit_store::add_row;
+use edit_store::change_row;
+use edit_store::remove_row;
+use edit_store::stepped;
 use lists::clear;
-use store::add_row;
-use store::change_row;
-use store::remove_row;
-use store::stepped;
 use table::Refusal;
 use table::Row;
 use table::Verdict;

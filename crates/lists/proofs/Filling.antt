@@ -1,5 +1,5 @@
 -- A list that is filled from the front by a rule, one store a turn: after i turns it is `build i f ++ drop i d`.
---     filled-none, filled-more, filled-all      at the start; one store more; at the end
+--     filled-more, filled-all                   one store more; at the end
 --     filled-whole                              at the end, the length told by an equation
 --     filled-long                               it keeps its length
 --     filled-past                               what stands past the stores is as it came
@@ -18,9 +18,6 @@ use Rattle.lists.proofs.Build.{length-build}
 module _ {ℓ} {A : Type ℓ} where
   abbrev pub filled : (ℕ → A) → List A → ℕ → List A
   filled f d i = build i f ++ drop i d
-
-  pub filled-none : (f : ℕ → A) (d : List A) → d ≡ filled f d 0
-  filled-none f d = refl
 
   filled-suc : (f : ℕ → A) (d : List A) (i : ℕ) → i < length d → set (filled f d i) i (f i) ≡ filled f d (suc i)
   filled-suc f [] i h = absurd (not-suc-le-zero h)

@@ -28,7 +28,7 @@ use Rattle.reader.proofs.Lent.{rows-fit, rows-stored}
 use Rattle.area.specs.Area.{areaOf, nodesIn, rowsIn}
 use Rattle.area.proofs.Areas.{nodes-in-area, rows-in-area}
 use Rattle.edit.specs.Edit.{Opened, Edited, afterEdits, rowsBy}
-use Rattle.judge.specs.Judge.{Edit}
+use Rattle.edit_judge.specs.Judge.{Edit}
 use Rattle.edit.proofs.Promises.{edits-make-rows}
 use Rattle.sentence.specs.Sentence as Sentence
 use Rattle.sentence.specs.Sentence.{Put}

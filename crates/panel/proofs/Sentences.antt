@@ -28,7 +28,7 @@ use Rattle.area.specs.Area as Area
 use Rattle.area.specs.Area.{most-links, countIn}
 use Rattle.edit.specs.declared.Entry.{Entry}
 use Rattle.edit.specs.Edit.{aboutRow, editRefusal, entryOf}
-use Rattle.judge.specs.Judge.{Edit, Add, Change, Remove, firstOf, sizeRefusal, numberRefusal, refusalOf, verdictBy}
+use Rattle.edit_judge.specs.Judge.{Edit, Add, Change, Remove, firstOf, sizeRefusal, numberRefusal, refusalOf, verdictBy}
 use Rattle.catalogue.specs.Catalogue.{isIn, verdictOn}
 use Rattle.catalogue.proofs.Told.{Told, ToldVerdict, either, verdict-told}
 use Rattle.sentence.specs.Sentence as Sentence

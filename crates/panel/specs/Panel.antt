@@ -12,7 +12,7 @@ use Rattle.text.specs.Text.{readingOf, rowsRead, writingOf}
 use Rattle.area.specs.Area.{areaOf}
 use Rattle.edit.specs.Edit as Edit
 use Rattle.edit.specs.Edit.{editRefusal, aboutRow}
-use Rattle.judge.specs.Judge.{Edit, sizeRefusal, verdictBy}
+use Rattle.edit_judge.specs.Judge.{Edit, sizeRefusal, verdictBy}
 use Rattle.catalogue.specs.Catalogue.{numbers, fields, verdictOn, isIn}
 use Rattle.sentence.specs.Sentence as Sentence
 use Rattle.sentence.specs.Sentence.{sentence, labelOf}

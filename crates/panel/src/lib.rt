@@ -4,7 +4,7 @@ ghost use lib.ListN.{getD};
 ghost use Rattle.table.specs.Steps.{listed};
 ghost use Rattle.area.specs.Area.{countIn, nodesIn, rowsIn, loadsIn, busiestIn};
 ghost use Rattle.edit.specs.Edit.{entryOf};
-ghost use Rattle.judge.specs.Judge.{Add, Change, Remove};
+ghost use Rattle.edit_judge.specs.Judge.{Add, Change, Remove};
 ghost use Rattle.flat.specs.Flat.{flatVerdict, flatEntry, flatLink};
 ghost use Rattle.panel.specs.Panel.{PanelPlanned, PanelRead, PanelWritten, PanelOpened, PanelEdited};
 ghost use Rattle.panel.specs.Panel.{PanelSentence, PanelLabel};

@@ -1,3 +1,4 @@
+// The planner: judges a table, plans its run in the lent areas, and answers with the summary or a refusal.
 ghost use mathlib.Core.Path.{_≡_};
 ghost use lib.ListN.{length};
 ghost use Rattle.table.specs.Table.{judgeRows, refuse};

@@ -1,3 +1,4 @@
+// The ring: nodes, slots and counts of links as three kinds, and how far and where a row is.
 ghost use mathlib.Core.Path.{_≡_};
 ghost use Prim.Native.Nat.{_+_, _-_, _≤_, _<_};
 ghost use Rattle.ring.specs.Ring.{distance, standing};

@@ -13,15 +13,14 @@ use Rattle.lists.specs.Lists.{firstPlace}
 use Rattle.table.specs.declared.Verdict.{Verdict}
 use Rattle.table.specs.declared.Verdict.the-variants.{Good, Refused}
 use Rattle.text.specs.declared.Writing.{Writing}
-use Rattle.text.specs.declared.Writing.the-variants.{Written, Refused as NotWritten}
+use Rattle.text.specs.Text.{numberOfWriting}
 use Rattle.catalogue.specs.Catalogue.{verdictOn, isIn}
 use Rattle.catalogue.proofs.Told.{Told, ToldVerdict, either, verdict-told}
 use Rattle.sentence.specs.Sentence.{roomFor, afterVerdict}
 
 -- A writing whose number has a sentence.
 unfoldable pub ToldWriting : Writing → Type 0
-ToldWriting (Written k) = Told 0
-ToldWriting (NotWritten r) = Told (r .number)
+ToldWriting w = Told (numberOfWriting w)
 
 -- What writing of a catalogue comes to has a sentence.
 pub put-told : (text : List ℕ) (found : Bool) (bytes : List ℕ) (lent : ℕ)

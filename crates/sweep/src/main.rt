@@ -1,3 +1,4 @@
+// Runs document 01's sweep table and some edits through the entry points, and prints what comes back.
 ghost use mathlib.Core.Path.{_≡_};
 ghost use Prim.Native.Nat.{ℕ, _≤_, _<_};
 ghost use lib.ListN.{length, take, replicate};

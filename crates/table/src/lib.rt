@@ -1,3 +1,4 @@
+// The table: its rows and their columns, and what is wrong with them.
 ghost use mathlib.Core.Path.{_≡_};
 ghost use lib.ListN.{length, getD};
 ghost use Rattle.lists.specs.Lists.{build};

@@ -1,6 +1,6 @@
 -- Digits and numerals.
 --     Digits                        every byte of a list is a digit
---     numeral-length, width-most    a numeral has one to five digits
+--     numeral-length, width-most    a numeral has five digits at most
 --     numeral-digits                a numeral is digits only, so no line feed stands in it (no-line-feed)
 --     numeral-value                 a numeral says the number that it is the numeral of
 --     numeral-again                 digits that are as many as their number has are its numeral
@@ -71,17 +71,6 @@ unfolding width
 width-most v = go (ltb v 10) (ltb v 100) (ltb v 1000) (ltb v 10000)
   where
     go : (a b c d : Bool) → cond a 1 (cond b 2 (cond c 3 (cond d 4 5))) ≤ 5
-    go true b c d = omega arith
-    go false true c d = omega arith
-    go false false true d = omega arith
-    go false false false true = omega arith
-    go false false false false = omega arith
-
-pub width-some : (v : ℕ) → 1 ≤ width v
-unfolding width
-width-some v = go (ltb v 10) (ltb v 100) (ltb v 1000) (ltb v 10000)
-  where
-    go : (a b c d : Bool) → 1 ≤ cond a 1 (cond b 2 (cond c 3 (cond d 4 5)))
     go true b c d = omega arith
     go false true c d = omega arith
     go false false true d = omega arith

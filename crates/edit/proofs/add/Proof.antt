@@ -3,7 +3,7 @@
 use borrow.Author.Needs.{needs}
 use Rattle.area.specs.Area.{nodesIn, countIn}
 use Rattle.edit.proofs.Outcomes.{refused-edit, good-edit, coming-number, add-roomy, why-none}
-use Rattle.judge.specs.Judge.{Add}
+use Rattle.edit_judge.specs.Judge.{Add}
 use Rattle.edit.specs.Edit.{aboutRow}
 use Rattle.edit.proofs.add.Statement.{statement}
 use Rattle.edit.proofs.add.Tie as tie

@@ -3,7 +3,7 @@
 use mathlib.Core.Path.{refl}
 use borrow.Author.Needs.{needs}
 use Rattle.edit.proofs.Outcomes.{refused-edit, good-edit, there-to-change, why-none}
-use Rattle.judge.specs.Judge.{Change}
+use Rattle.edit_judge.specs.Judge.{Change}
 use Rattle.edit.specs.Edit.{aboutRow}
 use Rattle.edit.proofs.change.Statement.{statement}
 use Rattle.edit.proofs.change.Tie as tie

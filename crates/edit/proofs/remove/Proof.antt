@@ -3,7 +3,7 @@
 use mathlib.Core.Path.{refl}
 use borrow.Author.Needs.{needs}
 use Rattle.edit.proofs.Outcomes.{refused-edit, good-edit, there-to-remove, why-none}
-use Rattle.judge.specs.Judge.{Remove}
+use Rattle.edit_judge.specs.Judge.{Remove}
 use Rattle.edit.specs.Edit.{aboutRow}
 use Rattle.edit.proofs.remove.Statement.{statement}
 use Rattle.edit.proofs.remove.Tie as tie

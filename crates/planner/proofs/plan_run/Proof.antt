@@ -46,7 +46,8 @@ returns c =
     c .before .before .before .before .before .before .before .before .before .before .before .before .before .before .before .before .sum .ensures in
     let last = c .before .before .greatest .ensures in
     run-accepted (s .pre)
-    (c .before .before .before .before .before .before .before .before .before .before .before .before .run .ensures) (omega arith) _ sends _ last _ (c .sum-up .ensures)
+    (c .before .before .before .before .before .before .before .before .before .before .before .before .run .ensures)
+    (omega arith) _ sends _ last _ (c .sum-up .ensures)
 
 same-length-4 : tie.Need-same-length-4
 same-length-4 c = search needs

@@ -83,7 +83,8 @@ loop-again c =
       omega arith,
       refl,
       entry-put (s .args .entries .now) (l .i) (l .inv .2)
-          (c .before .before .before .before .before .before .before .loop-test .taken) (mark .ensures) (entry .ensures),
+          (c .before .before .before .before .before .before .before .loop-test .taken) (mark .ensures)
+          (entry .ensures),
     )
 
 same-length : tie.Need-same-length Inv-loop μ-loop

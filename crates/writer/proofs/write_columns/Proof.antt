@@ -87,7 +87,8 @@ returns-2 c =
     let l2 = c .before .before .before .before .before .before .line-length2 in
     let l3 = c .before .before .rows-length in
     let few =
-    c .before .before .before .before .before .before .before .before .before .before .before .before .before .if1 .left in
+    c .before .before .before .before .before .before .before .before .before .before .before .before .before .if1 .left
+    in
     let so = no-room nodes rows columns area few
     (omega (
       arith,
