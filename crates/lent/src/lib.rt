@@ -17,7 +17,7 @@ pub fn row_at(rows: &[Row], i: usize) -> Row
 }
 
 // The columns of no rows.
-fn blank() -> Columns
+pub fn blank() -> Columns
     ensures { λ r. ⌜ r ≡ columns [] ⌝ }
 {
     let z = [0u16; 512];

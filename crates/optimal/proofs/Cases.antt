@@ -1,6 +1,5 @@
 -- Small lists of entries, and whether each is legal and meets its table, computed on the definitions by one statement
--- over
--- the list of cases.
+-- over the list of cases.
 -- A definition of `Legal`, `Meets` or `Schedule` that said less, or more, of them would give another list.
 -- Assumes nothing.
 use mathlib.Core.Path.{_≡_, refl}

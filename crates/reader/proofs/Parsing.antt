@@ -4,9 +4,8 @@ use mathlib.Core.Path.{_≡_, refl, _∙_, ap, sym}
 use mathlib.Core.List.{List, [], _∷_}
 use Prim.Native.Nat.{ℕ, _≤_}
 use native.Mathlib.Omega.{arith}
-use lib.ListN.{length, replicate}
-use Rattle.table.specs.Table.{destinations, dues}
-use Rattle.table.specs.Steps.{columns, sources}
+use lib.ListN.{length}
+use Rattle.table.specs.Steps.{columns}
 use Rattle.table.specs.declared.Row.{Row}
 use Rattle.table.specs.declared.Columns.{Columns}
 use Rattle.text.specs.declared.Reading.{Reading}
@@ -14,7 +13,6 @@ use Rattle.text.specs.declared.Reading.the-variants.{Read, Refused}
 use Rattle.text.specs.Text.{bodyOf, readingOf, rowsRead, filled, TextParsed}
 use Rattle.text.specs.Steps.{held}
 use Rattle.reader.specs.Steps.{TextRead}
-use Rattle.reader.proofs.ColumnLaws.{column-none}
 use Rattle.table.proofs.Rows.{listed-columns}
 use Rattle.reader.proofs.Loading.{rowsAt-length}
 use Rattle.text.proofs.RoundTrip.{read-fits}
@@ -65,9 +63,3 @@ module _ {text : List ℕ} {lent : ℕ} {answer : Reading} {src dst due : List �
           → TextParsed text lent (record { reading = answer; rows = n; columns = held src dst due })
       go (Read h) e = parsed (held src dst due) (t .rows h e)
       go (Refused r) e = absurd (d (count ∙ ap filled e))
-
-pub no-columns-are : (src dst due : List ℕ) → src ≡ replicate {A = ℕ} 512 0 → dst ≡ replicate {A = ℕ} 512 0
-    → due ≡ replicate {A = ℕ} 512 0 → held src dst due ≡ columns []
-unfolding columns sources destinations dues
-no-columns-are src dst due a b d =
-    rw (a ∙ column-none, b ∙ column-none, d ∙ column-none)

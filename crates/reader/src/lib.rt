@@ -1,12 +1,11 @@
 // Reads the text of a table: line by line into columns, and from columns into the lent rows.
 ghost use mathlib.Core.Path.{_≡_};
-ghost use mathlib.Core.List.{[]};
 ghost use Prim.Native.Nat.{ℕ, _≤_};
 ghost use lib.ListN.{length, drop, replicate};
 ghost use Rattle.table.specs.Table.{refuse};
-ghost use Rattle.table.specs.Steps.{columns};
 ghost use Rattle.text.specs.Text.{TextParsed, filled, TextTaken};
 ghost use Rattle.reader.specs.Steps.{RowsTaken, TextRead};
+use lent::blank;
 use lent::store_rows;
 use lines::Item;
 use lines::RowSeen;
@@ -111,17 +110,6 @@ fn rows_filled(reading: Reading) -> usize
     }
 }
 
-// The columns of a table that has no rows.
-fn no_columns() -> Columns
-    ensures { λ r. ⌜ r ≡ columns [] ⌝ }
-{
-    Columns {
-        src: zeros(),
-        dst: zeros(),
-        due: zeros(),
-    }
-}
-
 // Reads a text, where so many records are lent: what it comes to, and the rows by columns.
 pub fn parse(text: &[u8], lent: usize) -> Parsed
     ensures { λ r. ⌜ TextParsed (now (text .entry)) lent r ⌝ }
@@ -135,7 +123,7 @@ pub fn parse(text: &[u8], lent: usize) -> Parsed
         return Parsed {
             reading,
             rows,
-            columns: no_columns(),
+            columns: blank(),
         };
     }
     Parsed {

@@ -78,7 +78,8 @@ slice-aggregate-plan-rows-3 c =
 
 plan-rows-requires : tie.Need-plan-rows-requires
 plan-rows-requires c κs =
-    let a = c .before .before .before .before .before .before .before .before .before .before .before .before .before .args in
+    let back10 = c .before .before .before .before .before .before .before .before .before .before in
+    let a = back10 .before .before .before .args in
     let e : length (a .columns .src) ≡ 512 = search needs in
     let f : length (a .columns .dst) ≡ 512 = search needs in
     let g : length (a .columns .due) ≡ 512 = search needs in
@@ -92,7 +93,8 @@ same-length-2 c = search needs
 
 returns-4 : tie.Need-returns-4
 returns-4 c =
-    let a = c .before .before .before .before .before .before .before .before .before .before .before .before .before .before .before .before .before .before .args in
+    let back10 = c .before .before .before .before .before .before .before .before .before .before in
+    let a = back10 .before .before .before .before .before .before .before .before .args in
     let e : length (a .columns .src) ≡ 512 = search needs in
     rw (listed-fronts (a .rows) (a .columns) (omega arith)) (c .before .before .before .before .plan-rows .ensures)
 

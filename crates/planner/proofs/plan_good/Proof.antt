@@ -84,18 +84,22 @@ slice-relend-prefix-plan-run c = search needs
 
 slice-aggregate-plan-run-2 : tie.Need-slice-aggregate-plan-run-2
 slice-aggregate-plan-run-2 c =
-    let s = c .before .before .before .before .before .before .before .before .before .before .before .before .before .before in sym (length-take-le _ (s .args .plan .now) (omega arith))
+    let back10 = c .before .before .before .before .before .before .before .before .before .before in
+    let s = back10 .before .before .before .before in sym (length-take-le _ (s .args .plan .now) (omega arith))
 
 slice-relend-prefix-plan-run-2 : tie.Need-slice-relend-prefix-plan-run-2
 slice-relend-prefix-plan-run-2 c = search needs
 
 slice-aggregate-plan-run-3 : tie.Need-slice-aggregate-plan-run-3
 slice-aggregate-plan-run-3 c =
-    let s = c .before .before .before .before .before .before .before .before .before .before .before .before .before .before .before in sym (length-take-le _ (s .args .arrivals .now) (omega arith))
+    let back10 = c .before .before .before .before .before .before .before .before .before .before in
+    let s = back10 .before .before .before .before .before in
+    sym (length-take-le _ (s .args .arrivals .now) (omega arith))
 
 plan-run-requires : tie.Need-plan-run-requires
 plan-run-requires c κs =
-    let s = c .before .before .before .before .before .before .before .before .before .before .before .before .before .before .before in
+    let back10 = c .before .before .before .before .before .before .before .before .before .before in
+    let s = back10 .before .before .before .before .before in
     let w = c .before .before .before .before in
     let plan = length-take-le _ (s .args .plan .now) (omega arith)
     ∙ ap (λ g. s .args .nodes * g)
@@ -111,10 +115,11 @@ same-length-2 c = search needs
 
 returns-3 : tie.Need-returns-3
 returns-3 c =
-    let s = c .before .before .before .before .before .before .before .before .before .before .before .before .before .before .before .before .before .before .before .before .before in
-    let w = c .before .before .before .before .before .before .before .before .before .before in
-    let last =
-    c .before .before .before .before .before .before .before .before .before .before .before .before .before .before .before .greatest .ensures in
+    let back10 = c .before .before .before .before .before .before .before .before .before .before in
+    let back20 = back10 .before .before .before .before .before .before .before .before .before .before in
+    let s = back20 .before in
+    let w = back10 in
+    let last = back10 .before .before .before .before .before .greatest .ensures in
     planned-with (s .pre .0) (s .pre .1) (s .args .plan .now) (s .args .arrivals .now) last (omega arith) (omega arith)
     (c .before .before .before .before .before .plan-run .ensures)
     (rw (front-again (written w)) (w .measure .ensures))

@@ -34,7 +34,8 @@ same-length-2 c = search needs
 
 returns-2 : tie.Need-returns-2
 returns-2 c =
-    let s = c .before .before .before .before .before .before .before .before .before .before .before .before .before .before .before in
+    let back10 = c .before .before .before .before .before .before .before .before .before .before in
+    let s = back10 .before .before .before .before .before in
     none-bad (s .pre) (c .before .before .before .before .before .before .before .before .before .judge-rows .ensures)
     (c .before .before .before .before .before .before .before .enum-told .given .1)
     (c .before .before .before .before .plan-good .ensures)

@@ -22,7 +22,9 @@ cast-time c = search needs
 
 mul-time : tie.Need-mul-time
 mul-time c =
-    let s = c .before .before .before .before .before .before .before .before .before .before .before .before .before .before .before .before .before .before .before .before .before in
+    let back10 = c .before .before .before .before .before .before .before .before .before .before in
+    let back20 = back10 .before .before .before .before .before .before .before .before .before .before in
+    let s = back20 .before in
     let most : c .greatest .result ≤ 65535 = omega (arith, c .greatest .ok) in
     let nodes : s .args .nodes ≤ 65535 = omega (arith, s .fits .nodes) in
     omega (arith, mul-le-mul nodes most)
@@ -41,12 +43,13 @@ same-length-3 c = search needs
 
 returns : tie.Need-returns
 returns c =
-    let s = c .before .before .before .before .before .before .before .before .before .before .before .before .before .before .before .before .before .before .before .before .before .before .before in
-    let sends =
-    c .before .before .before .before .before .before .before .before .before .before .before .before .before .before .before .before .sum .ensures in
+    let back10 = c .before .before .before .before .before .before .before .before .before .before in
+    let back20 = back10 .before .before .before .before .before .before .before .before .before .before in
+    let s = back20 .before .before .before in
+    let sends = back10 .before .before .before .before .before .before .sum .ensures in
     let last = c .before .before .greatest .ensures in
     run-accepted (s .pre)
-    (c .before .before .before .before .before .before .before .before .before .before .before .before .run .ensures)
+    (back10 .before .before .run .ensures)
     (omega arith) _ sends _ last _ (c .sum-up .ensures)
 
 same-length-4 : tie.Need-same-length-4
@@ -60,8 +63,11 @@ same-length-6 c = search needs
 
 returns-2 : tie.Need-returns-2
 returns-2 c =
+    let back10 = c .before .before .before .before .before .before .before .before .before .before in
+    let back20 = back10 .before .before .before .before .before .before .before .before .before .before in
     run-refused
-    (c .before .before .before .before .before .before .before .before .before .before .before .before .before .before .before .before .before .before .before .before .pre) (c .before .before .before .before .before .before .before .before .before .run .ensures) (omega arith)
+    (back20 .pre) (c .before .before .before .before .before .before .before .before .before .run .ensures)
+    (omega arith)
 
 pub plan-run-spec : {M : Type 1} → statement M
 plan-run-spec =

@@ -20,13 +20,13 @@ read-columns-requires c κs = search needs
 rows-filled-requires : tie.Need-rows-filled-requires
 rows-filled-requires c κs = search needs
 
-no-columns-requires : tie.Need-no-columns-requires
-no-columns-requires c κs = search needs
+blank-requires : tie.Need-blank-requires
+blank-requires c κs = search needs
 
 returns : tie.Need-returns
 returns c =
     none-parsed (c .before .before .before .read-columns .ensures) (c .before .before .rows-filled .result)
-    (c .before .before .rows-filled .ensures) (c .no-columns .result) (c .before .if1 .taken) (c .no-columns .ensures)
+    (c .before .before .rows-filled .ensures) (c .blank .result) (c .before .if1 .taken) (c .blank .ensures)
 
 returns-2 : tie.Need-returns-2
 returns-2 c =
@@ -42,6 +42,6 @@ parse-spec =
     zeros-requires-3
     read-columns-requires
     rows-filled-requires
-    no-columns-requires
+    blank-requires
     returns
     returns-2)

@@ -78,10 +78,11 @@ refused-requires-3 c κs = search needs
 
 returns-3 : tie.Need-returns-3
 returns-3 c =
-    let a = c .before .before .before .before .before .before .before .before .before .before .before .before .before .args in
+    let back10 = c .before .before .before .before .before .before .before .before .before .before in
+    let a = back10 .before .before .before .args in
     let text = a .text .now in
     let lent = a .lent in
-    let l = c .before .before .before .before .before .before .before .before .before .before .line-at in
+    let l = back10 .line-at in
     let g = c .before .before .before .before .before .before .before .before .nodes .given in
     let one = seen-item nodes-key line-feed text 0 (l .result) (l .ensures) (g .0 .0) (g .0 .1 .0) (omega arith)
     (g .1) in
@@ -97,10 +98,11 @@ refused-requires-4 c κs = search needs
 
 returns-4 : tie.Need-returns-4
 returns-4 c =
-    let a = c .before .before .before .before .before .before .before .before .before .before .before .before .before .before .args in
+    let back10 = c .before .before .before .before .before .before .before .before .before .before in
+    let a = back10 .before .before .before .before .args in
     let text = a .text .now in
     let lent = a .lent in
-    let l = c .before .before .before .before .before .before .before .before .before .before .before .line-at in
+    let l = back10 .before .line-at in
     let g = c .before .before .before .before .before .before .before .before .before .nodes .given in
     let one = seen-item nodes-key line-feed text 0 (l .result) (l .ensures) (g .0 .0) (g .0 .1 .0) (omega arith)
     (g .1) in
@@ -114,10 +116,11 @@ returns-4 c =
 
 read-rows-requires : tie.Need-read-rows-requires
 read-rows-requires c κs =
-    let a = c .before .before .before .before .before .before .before .before .before .before .before .before .before .before .before .before .args in
+    let back10 = c .before .before .before .before .before .before .before .before .before .before in
+    let a = back10 .before .before .before .before .before .before .args in
     let text = a .text .now in
-    let l = c .before .before .before .before .before .before .before .before .before .before .before .before .before .line-at in
-    let g = c .before .before .before .before .before .before .before .before .before .before .before .nodes .given in
+    let l = back10 .before .before .before .line-at in
+    let g = back10 .before .nodes .given in
     let one = seen-item nodes-key line-feed text 0 (l .result) (l .ensures) (g .0 .0) (g .0 .1 .0) (omega arith)
     (g .1) in
     let l2 = c .before .before .before .before .before .before .before .before .line-at2 in
@@ -126,21 +129,22 @@ read-rows-requires c κs =
     (one .inside) (g2 .1) in (
       two .inside,
       c .before .before .before .before .if1 .left,
-      c .before .before .before .before .before .before .before .before .before .before .before .before .before .before .before .before .pre .0,
-      c .before .before .before .before .before .before .before .before .before .before .before .before .before .before .before .before .pre .1,
-      c .before .before .before .before .before .before .before .before .before .before .before .before .before .before .before .before .pre .2,
+      back10 .before .before .before .before .before .before .pre .0,
+      back10 .before .before .before .before .before .before .pre .1,
+      back10 .before .before .before .before .before .before .pre .2,
     )
 
 returns-5 : tie.Need-returns-5
 returns-5 c =
-    let a = c .before .before .before .before .before .before .before .before .before .before .before .before .before .before .before .before .before .before .args in
+    let back10 = c .before .before .before .before .before .before .before .before .before .before in
+    let a = back10 .before .before .before .before .before .before .before .before .args in
     let text = a .text .now in
     let lent = a .lent in
-    let l = c .before .before .before .before .before .before .before .before .before .before .before .before .before .before .before .line-at in
-    let g = c .before .before .before .before .before .before .before .before .before .before .before .before .before .nodes .given in
+    let l = back10 .before .before .before .before .before .line-at in
+    let g = back10 .before .before .before .nodes .given in
     let one = seen-item nodes-key line-feed text 0 (l .result) (l .ensures) (g .0 .0) (g .0 .1 .0) (omega arith)
     (g .1) in
-    let l2 = c .before .before .before .before .before .before .before .before .before .before .line-at2 in
+    let l2 = back10 .line-at2 in
     let g2 = c .before .before .before .before .before .before .before .before .rows .given in
     let two = seen-item rows-key line-feed text (g .0 .1 .0) (l2 .result) (l2 .ensures) (g2 .0 .0) (g2 .0 .1 .0)
     (one .inside) (g2 .1) in
@@ -154,14 +158,15 @@ refused-requires-5 c κs = search needs
 
 returns-6 : tie.Need-returns-6
 returns-6 c =
-    let a = c .before .before .before .before .before .before .before .before .before .before .before .before .before .before .before .before .before .before .before .args in
+    let back10 = c .before .before .before .before .before .before .before .before .before .before in
+    let a = back10 .before .before .before .before .before .before .before .before .before .args in
     let text = a .text .now in
     let lent = a .lent in
-    let l = c .before .before .before .before .before .before .before .before .before .before .before .before .before .before .before .before .line-at in
-    let g = c .before .before .before .before .before .before .before .before .before .before .before .before .before .before .nodes .given in
+    let l = back10 .before .before .before .before .before .before .line-at in
+    let g = back10 .before .before .before .before .nodes .given in
     let one = seen-item nodes-key line-feed text 0 (l .result) (l .ensures) (g .0 .0) (g .0 .1 .0) (omega arith)
     (g .1) in
-    let l2 = c .before .before .before .before .before .before .before .before .before .before .before .line-at2 in
+    let l2 = back10 .before .line-at2 in
     let g2 = c .before .before .before .before .before .before .before .before .before .rows .given in
     let two = seen-item rows-key line-feed text (g .0 .1 .0) (l2 .result) (l2 .ensures) (g2 .0 .0) (g2 .0 .1 .0)
     (one .inside) (g2 .1) in

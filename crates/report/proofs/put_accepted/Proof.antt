@@ -33,10 +33,9 @@ put-arrives-requires c κs =
 
 put-sends-requires : tie.Need-put-sends-requires
 put-sends-requires c κs =
-    let s = c .before .before .before .before .before .before .before .before .before .before .before .before .before .before .before .before .before in
-    let verdict =
-    c .before .before .before .before .before .before .before .before .before .before .before .before .put-verdict
-    in
+    let back10 = c .before .before .before .before .before .before .before .before .before .before in
+    let s = back10 .before .before .before .before .before .before .before in
+    let verdict = back10 .before .before .put-verdict in
     let last = c .before .before .before .before .before .before .before .put-line in
     let arrives = c .before .before .before .put-arrives in
     (s .pre .0, sends-fit (printing s) (verdict .ensures) (last .ensures) (arrives .ensures))
@@ -46,10 +45,11 @@ same-length c = search needs
 
 returns : tie.Need-returns
 returns c =
-    let s = c .before .before .before .before .before .before .before .before .before .before .before .before .before .before .before .before .before .before .before .before in
-    let verdict =
-    c .before .before .before .before .before .before .before .before .before .before .before .before .before .before .before .put-verdict in
-    let last = c .before .before .before .before .before .before .before .before .before .before .put-line in
+    let back10 = c .before .before .before .before .before .before .before .before .before .before in
+    let back20 = back10 .before .before .before .before .before .before .before .before .before .before in
+    let s = back20 in
+    let verdict = back10 .before .before .before .before .before .put-verdict in
+    let last = back10 .put-line in
     let arrives = c .before .before .before .before .before .before .put-arrives in
     let sends = c .before .before .put-sends in
     accepted-put (printing s) (verdict .ensures) (last .ensures) (arrives .ensures) (sends .ensures)

@@ -60,7 +60,8 @@ mark-behind-requires-2 c κs = search needs
 
 put-item-requires-2 : tie.Need-put-item-requires-2 Inv-loop μ-loop
 put-item-requires-2 c κs =
-    let s = c .before .before .before .before .before .before .before .before .before .before .before .before .before .before .before in
+    let back10 = c .before .before .before .before .before .before .before .before .before .before in
+    let s = back10 .before .before .before .before .before in
     let l = c .before .before .before .before .before .loop in
     let mark = c .mark-behind2 in (
       entry-fits (s .args .entries .now) (l .i) (l .inv .2) (c .before .before .before .before .loop-test .taken)
@@ -76,7 +77,8 @@ loop-less c = search needs
 
 loop-again : tie.Need-loop-again Inv-loop μ-loop
 loop-again c =
-    let s = c .before .before .before .before .before .before .before .before .before .before .before .before .before .before .before .before .before .before in
+    let back10 = c .before .before .before .before .before .before .before .before .before .before in
+    let s = back10 .before .before .before .before .before .before .before .before in
     let l = c .before .before .before .before .before .before .before .before .loop in
     let mark = c .before .before .before .mark-behind2 in
     let entry = c .before .before .put-item2 in (

@@ -28,7 +28,8 @@ slice-aggregate-put-line-3 c = search needs
 
 put-line-requires-3 : tie.Need-put-line-requires-3
 put-line-requires-3 c κs =
-    let s = c .before .before .before .before .before .before .before .before .before .before .before .before .before .before in
+    let back10 = c .before .before .before .before .before .before .before .before .before .before in
+    let s = back10 .before .before .before .before in
     let one = c .before .before .before .before .before .before .before .before .before .put-line in
     let two = c .before .before .before .before .put-line2 in
     (slot-fits (s .args .area .now) (s .args .refusal) (s .pre) (one .ensures) (two .ensures), omega arith)
@@ -38,9 +39,9 @@ same-length c = search needs
 
 returns : tie.Need-returns
 returns c =
-    let s = c .before .before .before .before .before .before .before .before .before .before .before .before .before .before .before .before .before in
-    let one =
-    c .before .before .before .before .before .before .before .before .before .before .before .before .put-line in
+    let back10 = c .before .before .before .before .before .before .before .before .before .before in
+    let s = back10 .before .before .before .before .before .before .before in
+    let one = back10 .before .before .put-line in
     let two = c .before .before .before .before .before .before .before .put-line2 in
     let three = c .before .before .put-line3 in
     verdict-put (s .args .area .now) (s .args .refusal) (s .pre) (one .ensures) (two .ensures) (three .ensures)

@@ -102,9 +102,9 @@ slice-aggregate-put-accepted-2 c =
 
 put-accepted-requires : tie.Need-put-accepted-requires
 put-accepted-requires c κs =
-    let s = c .before .before .before .before .before .before .before .before .before .before .before .before .before .before .before .before .before .before in
-    let k = answered (c .before .before .before .before .before .before .before .before .before .before .before .before)
-    in
+    let back10 = c .before .before .before .before .before .before .before .before .before .before in
+    let s = back10 .before .before .before .before .before .before .before .before in
+    let k = answered (back10 .before .before) in
     let e = c .before .before .before .before .before .before .before .before .answer2 .given .1 in
     let found = c .before .before .before .greatest .ensures in
     (slotted k e found, accepted-fits k e found (s .args .area .now) (s .pre))
@@ -123,10 +123,10 @@ same-length-2 c = search needs
 
 returns-2 : tie.Need-returns-2
 returns-2 c =
+    let back10 = c .before .before .before .before .before .before .before .before .before .before in
     let k = answered
-    (c .before .before .before .before .before .before .before .before .before .before .before .before .before .before .before) in
-    let e = c .before .before .before .before .before .before .before .before .before .before .before .answer2 .given .1
-    in
+    (back10 .before .before .before .before .before) in
+    let e = back10 .before .answer2 .given .1 in
     let found = c .before .before .before .before .before .before .greatest .ensures in
     rw (accepted-is k e found) (c .before .before .put-accepted .ensures)
 
