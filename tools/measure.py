@@ -1,5 +1,5 @@
 #!/usr/bin/env python3
-"""The figures of docs/MEASURED.md: lines, seconds and memory of each crate, proved from nothing in a fresh clone.
+"""The figures of docs/MEASURED.md: lines, processor seconds and memory of each crate, proved from nothing in a fresh clone.
 
 Usage: python3 tools/measure.py     (from the repository; prints a Markdown table)
 """
@@ -8,7 +8,6 @@ import os
 import subprocess
 import sys
 import tempfile
-import time
 
 
 def crates(root):
@@ -34,8 +33,7 @@ def lines(root, name, part, ending):
 
 
 def check(root, name):
-    """Seconds and the largest resident set, in MB, of one crate's check; what it depends on is proved already."""
-    start = time.time()
+    """Processor seconds and the largest resident set, in MB, of one crate's check; what it depends on is proved already."""
     child = os.fork()
     if child == 0:
         os.chdir(root)
@@ -45,12 +43,15 @@ def check(root, name):
         import resource
 
         ok = subprocess.call(["rt", "check", name]) == 0
-        peak = resource.getrusage(resource.RUSAGE_CHILDREN).ru_maxrss // 1024
-        os._exit(0 if ok and not open(os.path.join(root, ".peak"), "w").write(str(peak)) == 0 else 1)
+        used = resource.getrusage(resource.RUSAGE_CHILDREN)
+        with open(os.path.join(root, ".used"), "w") as file:
+            file.write(f"{used.ru_utime + used.ru_stime} {used.ru_maxrss // 1024}")
+        os._exit(0 if ok else 1)
     _, status = os.waitpid(child, 0)
     if status:
         sys.exit(f"measure: {name} was not proved")
-    return time.time() - start, int(open(os.path.join(root, ".peak")).read())
+    seconds, peak = open(os.path.join(root, ".used")).read().split()
+    return float(seconds), int(peak)
 
 
 def main():
