@@ -1,6 +1,6 @@
 -- Editing a table at the panel: document 02, Ask 2. The panel lends one area. What stands where in it is said in
--- crates/area/specs/Area.antt, what is wrong with an edit in crates/judge/specs/Judge.antt, and what a good edit makes
--- of the area in crates/store/specs/Store.antt.
+-- crates/area/specs/Area.antt, what is wrong with an edit in crates/edit_judge/specs/Judge.antt, and what a good edit
+-- makes of the area in crates/edit_store/specs/Store.antt.
 use Prim.Native.Nat.{ℕ, suc, _-_}
 use mathlib.Core.Path.{_≡_}
 use mathlib.Core.Bool.{cond}
