@@ -1,5 +1,5 @@
 #!/usr/bin/env bash
-# Builds the archive, then times its planner beside a Rust planner that scans all rows in each slot.
+# Builds the archive, then times its planner beside Rust planners that scan all cells in each slot.
 set -euo pipefail
 cd "$(dirname "$0")/.."
 rt staticlib panel

@@ -1,6 +1,6 @@
 /* An operator's path: enter a table, plan it, look at the plan; then meet a refusal, mend it, and meet a late table; then
-   keep the table as text, read it back, and meet a wrong line; then edit a table row by row with the load of each link in
-   view, and plan it. */
+   send a message of several cells, and meet one that is too long; then keep the table as text, read it back, and meet a
+   wrong line; then edit a table row by row with the load of each link in view, and plan it. */
 #include "garboardle.h"
 
 #include <stdio.h>
@@ -28,11 +28,18 @@ static const char *const words[] = {
     "plan area too short",
     "arrivals area too short",
     "late",
-    [12] = "no such row",
+    "length outside 1 to 64",
+    "more than 1024 cells",
+    "no such row",
     [20] = "wrong line",
     [21] = "list too short",
     [22] = "area too short",
 };
+
+static void show_row(size_t number, unsigned src, unsigned dst, unsigned len, unsigned due)
+{
+    printf("  row %zu: %u to %u, cells %u, due %u\n", number, src, dst, len, due);
+}
 
 static unsigned largest_due(const struct garboardle_row *rows, size_t count)
 {
@@ -71,7 +78,7 @@ static void operate(const char *what, uint16_t nodes, const struct garboardle_ro
 {
     printf("%s: %u nodes\n", what, (unsigned)nodes);
     for (size_t i = 0; i < count; i++)
-        printf("  row %zu: %u to %u, due %u\n", i + 1, (unsigned)rows[i].src, (unsigned)rows[i].dst, (unsigned)rows[i].due);
+        show_row(i + 1, rows[i].src, rows[i].dst, rows[i].len, rows[i].due);
     show_answer(garboardle_plan(nodes, rows, count, plan, LENGTH(plan), arrivals, LENGTH(arrivals)), nodes, rows, count);
 }
 
@@ -99,8 +106,8 @@ static void keep(uint16_t nodes, const struct garboardle_row *rows, size_t count
 
     struct garboardle_read_answer r = garboardle_read(text, w.length, kept, 1);
     printf("1 record lent, 2 needed: answer %u (%s)\n", (unsigned)r.number, words[r.number]);
-    w = garboardle_write(nodes, rows, count, text, 50);
-    printf("50 bytes lent, 51 needed: answer %u (%s)\n", (unsigned)w.number, words[w.number]);
+    w = garboardle_write(nodes, rows, count, text, 62);
+    printf("62 bytes lent, 63 needed: answer %u (%s)\n", (unsigned)w.number, words[w.number]);
 }
 
 /* The edited table as the panel draws it: its rows, the load of each link, and the busiest one. */
@@ -108,7 +115,7 @@ static void show_desk(void)
 {
     for (unsigned number = 1; number <= garboardle_row_count(&desk); number++) {
         struct garboardle_row_answer r = garboardle_row_of(&desk, (uint16_t)number);
-        printf("  row %u: %u to %u, due %u\n", number, (unsigned)r.src, (unsigned)r.dst, (unsigned)r.due);
+        show_row(number, r.src, r.dst, r.len, r.due);
     }
     printf("  loads:");
     for (unsigned p = 0; p < desk.nodes; p++)
@@ -125,24 +132,25 @@ static void report(const char *what, struct garboardle_edit_answer a)
         show_desk();
 }
 
-/* Edits a table, with three edits that are refused and change nothing. */
+/* Edits a table, with four edits that are refused and change nothing. */
 static void edit(void)
 {
     report("open", garboardle_open(&desk, 4));
-    report("add", garboardle_add(&desk, (struct garboardle_row){0, 1, 2}));
-    report("add", garboardle_add(&desk, (struct garboardle_row){0, 3, 3}));
-    report("add", garboardle_add(&desk, (struct garboardle_row){2, 1, 6}));
-    report("add from node 4", garboardle_add(&desk, (struct garboardle_row){4, 1, 2}));
-    report("change row 4", garboardle_change(&desk, 4, (struct garboardle_row){1, 3, 4}));
+    report("add", garboardle_add(&desk, (struct garboardle_row){0, 1, 1, 2}));
+    report("add", garboardle_add(&desk, (struct garboardle_row){0, 3, 1, 3}));
+    report("add", garboardle_add(&desk, (struct garboardle_row){2, 1, 3, 6}));
+    report("add from node 4", garboardle_add(&desk, (struct garboardle_row){4, 1, 1, 2}));
+    report("add 65 cells", garboardle_add(&desk, (struct garboardle_row){3, 1, 65, 99}));
+    report("change row 4", garboardle_change(&desk, 4, (struct garboardle_row){1, 3, 1, 4}));
     report("remove row 0", garboardle_remove(&desk, 0));
-    report("change row 1", garboardle_change(&desk, 1, (struct garboardle_row){1, 3, 4}));
+    report("change row 1", garboardle_change(&desk, 1, (struct garboardle_row){1, 3, 1, 4}));
     report("remove row 2", garboardle_remove(&desk, 2));
 }
 
 /* Plans the edited table, then the same rows entered afresh, and compares what came of both. */
 static void plan_edited(void)
 {
-    struct garboardle_row rows[] = {{1, 3, 4}, {2, 1, 6}};
+    struct garboardle_row rows[] = {{1, 3, 1, 4}, {2, 1, 3, 6}};
     struct garboardle_answer a = garboardle_plan_table(&desk, plan, LENGTH(plan), arrivals, LENGTH(arrivals));
     struct garboardle_answer b =
         garboardle_plan(4, rows, LENGTH(rows), plan_afresh, LENGTH(plan_afresh), arrivals_afresh, LENGTH(arrivals_afresh));
@@ -157,7 +165,7 @@ static void plan_edited(void)
 
 int main(void)
 {
-    struct garboardle_row table[] = {{0, 1, 2}, {0, 3, 3}};
+    struct garboardle_row table[] = {{0, 1, 1, 2}, {0, 3, 1, 3}};
     operate("entered", 4, table, LENGTH(table));
 
     table[0].dst = 4;
@@ -173,7 +181,14 @@ int main(void)
     struct garboardle_answer a = garboardle_plan(4, table, LENGTH(table), plan, 11, arrivals, LENGTH(arrivals));
     printf("11 entries lent, 12 needed: answer %u (%s)\n", (unsigned)a.number, words[a.number]);
 
-    table[0].due = 4;
+    table[0].len = 2;
+    table[0].due = 5;
+    operate("lengthened", 4, table, LENGTH(table));
+
+    table[0].len = 65;
+    operate("too long", 4, table, LENGTH(table));
+
+    table[0].len = 2;
     keep(4, table, LENGTH(table));
 
     edit();

@@ -1,6 +1,6 @@
 /* Plans a slotted ring: which message each link carries in each slot, so that every message is in time; reads and writes
-   its table as text; edits a table row by row; says an answer in the words of a catalogue. Link with libpanel.a
-   (docs/PANEL.md says how to build it). */
+   its table as text; edits a table row by row; says an answer in the words of a catalogue. No call takes more
+   than 32 KiB of stack or keeps anything. Link with libpanel.a (docs/PANEL.md says how to build it). */
 #ifndef GARBOARDLE_H
 #define GARBOARDLE_H
 
@@ -15,21 +15,25 @@ extern "C" {
 #define GARBOARDLE_MOST_LINKS GARBOARDLE_MOST_NODES
 #define GARBOARDLE_MOST_ROWS 512
 #define GARBOARDLE_LATEST_DUE 1024
+#define GARBOARDLE_MOST_LENGTH 64
+#define GARBOARDLE_MOST_CELLS 1024
 
 /* Areas of these lengths are long enough for every table. */
 #define GARBOARDLE_MOST_ENTRIES (GARBOARDLE_MOST_NODES * GARBOARDLE_LATEST_DUE)
 #define GARBOARDLE_MOST_ARRIVALS GARBOARDLE_MOST_ROWS
-#define GARBOARDLE_LONGEST_TEXT 15381
+#define GARBOARDLE_LONGEST_TEXT 20501
 
 /* Areas of these lengths are long enough for every sentence, which is a string, a space, a row, a space and a slot, and for
    every label. */
 #define GARBOARDLE_LONGEST_SENTENCE (96 + 1 + 5 + 1 + 5)
 #define GARBOARDLE_LONGEST_LABEL 96
 
-/* One message: from node src to node dst, there at instant due or before. Rows are numbered from 1, in list order. */
+/* One message: len cells from node src to node dst, the last of them there at instant due or before. Each cell moves by
+   itself, and none overtakes an earlier one. Rows are numbered from 1, in list order. */
 struct garboardle_row {
     uint16_t src;
     uint16_t dst;
+    uint16_t len;
     uint16_t due;
 };
 
@@ -42,37 +46,40 @@ struct garboardle_row {
    3       source not below nodes                row  0
    4       destination not below nodes           row  0
    5       source equals destination             row  0
+   10      length outside 1 to 64                row  0
    6       due slot outside 1 to 1,024           row  0
+   11      more than 1,024 cells in all          0    0
    7       plan area shorter than needed         0    0
    8       arrivals area shorter than the rows   0    0
    9       late: no schedule is in time          row  instant
 
-   They are checked in the order 1, 2, the rows in order with 3 to 6 within a row, 7, 8, 9; the first that holds is given. */
+   They are checked in the order 1, 2, the rows in order with 3, 4, 5, 10, 6 within a row, 11, 7, 8, 9; the first that holds
+   is given. */
 struct garboardle_answer {
     uint16_t number;
     uint16_t row;
     uint16_t slot;
     uint16_t last;  /* last delivery instant */
-    uint32_t sends; /* sends: the sum of all distances */
-    uint32_t sum;   /* sum of the delivery instants */
+    uint32_t sends; /* sends: the sum of all cells' distances */
+    uint32_t sum;   /* sum of the rows' delivery instants */
     double mean;    /* mean delay: sum / rows */
     double share;   /* used share: sends / (nodes * last) */
 };
 
-/* Plans the table of rows by the rule of least slack.
+/* Plans the table of rows by the rule of least slack, cell by cell: a cell is due one slot earlier than the next of its row.
 
    The caller lends all three lists for the call, and nothing is kept of them after it: rows is read; plan and arrivals are
    written. None is null, not even with length 0, and plan and arrivals overlap neither each other nor rows.
    plan needs nodes * (largest due slot) entries, and arrivals one for each row.
 
-   Accepted: plan[t * nodes + p] is the row that link p carries in slot t, 0 for idle; arrivals[i] is the instant at which
-   row i + 1 is at its destination. Refused with 9: those entries of both are 0. Refused with 1 to 8: both are as they were.
+   Accepted: plan[t * nodes + p] is the row of which link p carries a cell in slot t, 0 for idle: the earliest that stands
+   at node p. arrivals[i] is the instant at which the last cell of row i + 1 is at its destination. Refused with 9: those entries of both are 0. Refused with 1 to 8: both are as they were.
    No entry past those needed is touched. */
 struct garboardle_answer garboardle_plan(uint16_t nodes, const struct garboardle_row *rows, size_t rows_len,
                                          uint16_t *plan, size_t plan_len, uint16_t *arrivals, size_t arrivals_len);
 
-/* A table as text is lines of key=value: nodes, rows, then src, dst and due for each row. Each is the key, an equals sign,
-   a decimal numeral of 0 to 65535 with no leading zero, and one line feed. Nothing follows the last line.
+/* A table as text is lines of key=value: nodes, rows, then src, dst, len and due for each row. Each is the key, an equals
+   sign, a decimal numeral of 0 to 65535 with no leading zero, and one line feed. Nothing follows the last line.
 
    number  given when                                                          line
    2       more than 512 rows                                                  0
@@ -113,10 +120,10 @@ struct garboardle_read_answer garboardle_read(const uint8_t *text, size_t text_l
 struct garboardle_write_answer garboardle_write(uint16_t nodes, const struct garboardle_row *rows, size_t rows_len,
                                                 uint8_t *area, size_t area_len);
 
-/* A table that is edited row by row, with the load of each link: how many rows cross it on their way from source up to
+/* A table that is edited row by row, with the load of each link: how many cells cross it on their way from source up to
    destination, round node 0. Link p leads out of node p.
 
-   The panel owns the area, 3,140 bytes without gaps, and lends it for each call; nothing is kept of it after the call. The
+   The panel owns the area, 4,164 bytes without gaps, and lends it for each call; nothing is kept of it after the call. The
    panel may read every field at any time, and hand row and rows to garboardle_plan and garboardle_write, but it writes to
    none: the functions keep load in step with row, and zeros behind the last row. */
 struct garboardle_table {
@@ -136,10 +143,12 @@ struct garboardle_table {
    3       source not below nodes                                                 row
    4       destination not below nodes                                            row
    5       source equals destination                                              row
+   10      length outside 1 to 64                                                 row
    6       due slot outside 1 to 1,024                                            row
 
-   3 to 6 are about the row that is given: to adding, under its coming number, or to changing, under the number asked for.
-   An area of zeros that was never opened gives 1. */
+   3, 4, 5, 10 and 6 are about the row that is given: to adding, under its coming number, or to changing, under the number
+   asked for. How many cells the rows have in all is no matter here: planning gives 11. An area of zeros that was never
+   opened gives 1. */
 
 /* The answer of opening and editing, and of judging a catalogue. Done: all three are 0. Refused: number says why, row says
    where, and slot is 0. */
@@ -149,30 +158,31 @@ struct garboardle_edit_answer {
     uint16_t slot;
 };
 
-/* The answer of showing a row. Shown: number, row and slot are 0. Refused: src, dst and due are 0, and so is slot. */
+/* The answer of showing a row. Shown: number, row and slot are 0. Refused: src, dst, len and due are 0, and so is slot. */
 struct garboardle_row_answer {
     uint16_t number;
     uint16_t row;
     uint16_t slot;
     uint16_t src;
     uint16_t dst;
+    uint16_t len;
     uint16_t due;
 };
 
-/* A link, and how many rows cross it. */
+/* A link, and how many cells cross it. */
 struct garboardle_link {
     uint16_t link;
     uint16_t load;
 };
 
 /* In all functions below the table is lent for the call. It is never null, and may hold any numbers: an area that nobody
-   opened a table in, or that somebody damaged, is refused with 1 or 2, or edited as it stands. There a load that would
-   pass 0 or 65,535 stays; where only these functions wrote to the area, none would. */
+   opened a table in, or that somebody damaged, is refused with 1 or 2, or edited as it stands. There a load goes no
+   further than 0 or 65,535; where only these functions wrote to the area, none would. */
 
 /* Opens an empty table for so many nodes, whatever the area held: every other number becomes 0. */
 struct garboardle_edit_answer garboardle_open(struct garboardle_table *table, uint16_t nodes);
 
-/* Adds a row at the end, and counts it on the links of its way; no other load changes. */
+/* Adds a row at the end, and counts its cells on the links of its way; no other load changes. */
 struct garboardle_edit_answer garboardle_add(struct garboardle_table *table, struct garboardle_row row);
 
 /* Puts a row in the place of row number, and counts the old one out and the new one in; no load changes but on the links
@@ -189,7 +199,7 @@ uint16_t garboardle_row_count(const struct garboardle_table *table);
 /* Row number, for the operator to see. */
 struct garboardle_row_answer garboardle_row_of(const struct garboardle_table *table, uint16_t number);
 
-/* How many rows cross a link, 0 for a link that the ring does not have. */
+/* How many cells cross a link, 0 for a link that the ring does not have. */
 uint16_t garboardle_link_load(const struct garboardle_table *table, uint16_t link);
 
 /* The busiest link, the lowest on a tie, and its load: link 0 with load 0 for an empty table. */
@@ -203,13 +213,13 @@ struct garboardle_link garboardle_busiest(const struct garboardle_table *table);
 struct garboardle_answer garboardle_plan_table(const struct garboardle_table *table, uint16_t *plan, size_t plan_len,
                                                uint16_t *arrivals, size_t arrivals_len);
 
-/* A catalogue has the words of one language, as text of 24 lines in this order: r0 for acceptance; r1 to r9, r12, r20 to
-   r22 and r30 to r33 for the refusals of these numbers; f1 to f6 for the labels of nodes, source, destination, due slot,
+/* A catalogue has the words of one language, as text of 26 lines in this order: r0 for acceptance; r1 to r12, r20 to r22
+   and r30 to r33 for the refusals of these numbers; f1 to f6 for the labels of nodes, source, destination, due slot,
    span and range. Each line is the key, an equals sign, a string of 1 to 96 bytes with no line feed among them, and one
    line feed. Nothing follows the last line, and no two labels are equal.
 
    number  given when                                                              row
-   30      a line is wrong, missing or not ended, or bytes follow the last (25)    line
+   30      a line is wrong, missing or not ended, or bytes follow the last (27)    line
    31      the key is right, but the string is empty or longer than 96 bytes       line
    32      a label equals an earlier one                                           line, the first that repeats
    33      the number asked for has no sentence, or the field no label             0

@@ -1,18 +1,18 @@
 #!/usr/bin/env python3
-"""The plan program against a model written from document 01 alone.
+"""The plan program against a model written from documents 01 and 02 alone.
 
 Usage: python3 tests/program.py PROGRAM
 
-The program is run on the sweep cases, on every prefix and many single-byte changes of two small texts, on long texts, and on random tables;
-what it prints is compared byte by byte. The last line counts the runs.
+The program is run on the sweep cases, on rows of several cells, on texts of the old form, on every prefix and many single-byte changes
+of two small texts, on long texts, and on random tables; what it prints is compared byte by byte. The last line counts the runs.
 """
 import random
 import re
 import subprocess
 import sys
 
-KEYS = ("src", "dst", "due")
-LIMIT = 16384
+KEYS = ("src", "dst", "len", "due")
+LIMIT = 24576
 
 
 class Refused(Exception):
@@ -37,50 +37,56 @@ def read(text):
     count = line(2, "rows")
     if count > 512:
         raise Refused(2)
-    rows = [tuple(line(3 + 3 * i + j, key) for j, key in enumerate(KEYS)) for i in range(count)]
+    rows = [tuple(line(3 + 4 * i + j, key) for j, key in enumerate(KEYS)) for i in range(count)]
     if at < len(text):
-        raise Refused(20, 3 + 3 * count)
+        raise Refused(20, 3 + 4 * count)
     return nodes, rows
 
 
 def judge(nodes, rows):
     if not 2 <= nodes <= 32:
         raise Refused(1)
-    for number, (src, dst, due) in enumerate(rows, 1):
+    for number, (src, dst, length, due) in enumerate(rows, 1):
         if src >= nodes:
             raise Refused(3, number)
         if dst >= nodes:
             raise Refused(4, number)
         if src == dst:
             raise Refused(5, number)
+        if not 1 <= length <= 64:
+            raise Refused(10, number)
         if not 1 <= due <= 1024:
             raise Refused(6, number)
+    if sum(length for _, _, length, _ in rows) > 1024:
+        raise Refused(11)
 
 
 def plan(nodes, rows):
-    """The arrivals and the slots of the rule of least slack: each message is a place on the ring that moves."""
-    place = [src for src, _, _ in rows]
+    """The arrivals and the slots of the rule of least slack: each cell is a place on the ring that moves."""
+    # of each cell its row's index, its destination and its due slot, in the order of rows and then of cells
+    cells = [(i, dst, due - (length - j)) for i, (_, dst, length, due) in enumerate(rows) for j in range(1, length + 1)]
+    place = [rows[i][0] for i, _, _ in cells]
     arrival = [0] * len(rows)
     slots = []
     t = 0
-    waiting = list(range(len(rows)))
+    waiting = list(range(len(cells)))
     while waiting:
-        slack = {i: rows[i][2] - t - (rows[i][1] - place[i]) % nodes for i in waiting}
-        for i in waiting:
-            if slack[i] < 0:
-                raise Refused(9, i + 1, t)
+        slack = {c: cells[c][2] - t - (cells[c][1] - place[c]) % nodes for c in waiting}
+        for c in waiting:
+            if slack[c] < 0:
+                raise Refused(9, cells[c][0] + 1, t)
         sent = {}
-        for i in waiting:
-            if place[i] not in sent or slack[i] < slack[sent[place[i]]]:
-                sent[place[i]] = i
-        slots.append([sent[p] + 1 if p in sent else 0 for p in range(nodes)])
+        for c in waiting:
+            if place[c] not in sent or slack[c] < slack[sent[place[c]]]:
+                sent[place[c]] = c
+        slots.append([cells[sent[p]][0] + 1 if p in sent else 0 for p in range(nodes)])
         t += 1
-        for i in sent.values():
-            place[i] = (place[i] + 1) % nodes
-            if place[i] == rows[i][1]:
-                arrival[i] = t
-                waiting.remove(i)
-    slots += [[0] * nodes] * (max((due for _, _, due in rows), default=0) - t)
+        for c in sent.values():
+            place[c] = (place[c] + 1) % nodes
+            if place[c] == cells[c][1]:
+                arrival[cells[c][0]] = t
+                waiting.remove(c)
+    slots += [[0] * nodes] * (max((due for _, _, _, due in rows), default=0) - t)
     return arrival, slots
 
 
@@ -104,7 +110,7 @@ def table(nodes, rows, count=None):
 
 
 def sweep():
-    """Document 01's sweep table."""
+    """Document 01's sweep table, all rows of one cell."""
     for nodes, rows in (
         (4, [(0, 2, 3), (0, 1, 2)]),
         (4, [(0, 1, 2), (0, 3, 3)]),
@@ -119,12 +125,45 @@ def sweep():
         (2, [(0, 1, 1024)]),
         (33, [(40, 0, 0)]),
     ):
+        yield table(nodes, [(src, dst, 1, due) for src, dst, due in rows])
+
+
+def blocks():
+    """Rows of several cells: alone, together on a link, past node 0, late, and as many as there may be."""
+    for nodes, rows in (
+        (4, [(0, 2, 3, 4)]),
+        (4, [(0, 2, 3, 3)]),
+        (4, [(0, 1, 2, 4), (0, 2, 2, 4)]),
+        (4, [(2, 1, 2, 5), (3, 0, 2, 4)]),
+        (4, [(0, 1, 3, 9), (0, 3, 1, 10)]),
+        (2, [(0, 1, 64, 1)]),
+        (2, [(0, 1, 64, 64)]),
+        (2, [(0, 1, 2, 4), (0, 1, 3, 3)]),
+        (2, [(0, 1, 64, 1024)] * 16),
+        (2, [(0, 1, 64, 1024)] * 16 + [(0, 1, 1, 1024)]),
+        (2, [(0, 1, 64, 1024)] * 17 + [(0, 1, 65, 0)]),
+        (2, [(0, 1, 2, 1024)] * 512),
+        (2, [(0, 1, 2, 1024)] * 511 + [(0, 1, 3, 1024)]),
+        (4, [(0, 1, 0, 5)]),
+        (4, [(0, 1, 65, 0)]),
+        (4, [(0, 1, 65535, 5)]),
+        (4, [(0, 0, 0, 0)]),
+        (4, [(0, 1, 64, 0)]),
+    ):
         yield table(nodes, rows)
+
+
+def old_texts():
+    """Texts without lengths, and with a length's line doubled or out of its place."""
+    for count in (0, 1, 2, 512, 513):
+        yield b"nodes=4\nrows=%d\n" % count + b"src=0\ndst=1\ndue=2\n" * count
+    for lines in (b"len=1\nlen=1\ndue=2\n", b"due=2\nlen=1\n", b"len=\ndue=2\n", b"len=01\ndue=2\n", b"len=65536\ndue=2\n"):
+        yield b"nodes=4\nrows=1\nsrc=0\ndst=1\n" + lines
 
 
 def damaged():
     """Every prefix of two small texts, and each of their bytes replaced, doubled or dropped."""
-    for text in (table(4, [(0, 1, 2), (0, 3, 3)]), table(10, [])):
+    for text in (table(4, [(0, 1, 1, 2), (0, 3, 2, 4)]), table(10, [])):
         for i in range(len(text) + 1):
             yield text[:i]
         for i in range(len(text)):
@@ -136,14 +175,14 @@ def damaged():
 
 def long_texts():
     """The longest right text, and texts past the limit."""
-    longest = table(65535, [(65535, 65535, 65535)] * 512)
-    assert len(longest) == 15381
+    longest = table(65535, [(65535,) * 4] * 512)
+    assert len(longest) == 20501
     yield longest
     yield longest + b"x"
-    yield longest + b"\n" * 1003
+    yield longest + b"\n" * (LIMIT - len(longest))
     yield longest + b"\n" * 9000
     yield b"nodes=4\n" * 5000
-    yield table(4, [(0, 1, 2)] * 3, 513)
+    yield table(4, [(0, 1, 1, 2)] * 3, 513)
     yield table(33, [], 513)
     yield b""
     for numeral in ("65535", "65536", "00", "01", "", "-1", "+4", " 4", "4 ", "4\r", "99999", "100000", "4294967300"):
@@ -156,16 +195,18 @@ def random_tables(rng):
         nodes = rng.randint(2, 32)
         rows = []
         for _ in range(rng.choice((1, 3, 10, 60, 200))):
-            src = rng.randrange(nodes)
-            rows.append((src, (src + rng.randrange(1, nodes)) % nodes, rng.randint(1, rng.choice((6, 40, 200)))))
+            src, length = rng.randrange(nodes), rng.choice((1, 1, 1, rng.randint(1, 9), rng.randint(1, 64)))
+            due = rng.randint(1, rng.choice((6, 40, 200, 1024)))
+            rows.append((src, (src + rng.randrange(1, nodes)) % nodes, length, due))
         yield table(nodes, rows)
-    yield table(32, [(i % 32, (i + 31) % 32, 1024) for i in range(512)])
+    yield table(32, [(i % 32, (i + 31) % 32, 1, 1024) for i in range(512)])
+    yield table(32, [(i % 32, (i + 7) % 32, 2, 1024) for i in range(512)])
 
 
 def main():
     program = sys.argv[1]
     runs = accepted = 0
-    for texts in (sweep(), damaged(), long_texts(), random_tables(random.Random(1))):
+    for texts in (sweep(), blocks(), old_texts(), damaged(), long_texts(), random_tables(random.Random(1))):
         for text in texts:
             said = subprocess.run([program], input=text, capture_output=True, check=True).stdout.decode()
             if said != expected(text):

@@ -15,6 +15,7 @@ def main():
     if said[0] != "answer=0":
         sys.exit("picture: the table is refused: " + ", ".join(said[:3]))
     arrivals = [int(line[7:]) for line in said if line.startswith("arrive=")]
+    destinations = [int(line[4:]) for line in open(table) if line.startswith("dst=")]
     slots = [[int(entry) for entry in line[5:].split(",")] for line in said if line.startswith("send=")]
     links = len(slots[0])
     width, height = LEFT + links * CELL + 20, TOP + len(slots) * CELL + 46
@@ -30,8 +31,8 @@ def main():
         out.append(text % (LEFT - 12, y + CELL // 2 + 5, "end", "#333", t))
         for p, row in enumerate(slot):
             x = LEFT + p * CELL
-            # the colour goes by the row, the frame is bold where the row arrives at the end of this slot
-            arrives = row and arrivals[row - 1] == t + 1
+            # the colour goes by the row, the frame is bold where the row's last cell arrives at the end of this slot
+            arrives = row and arrivals[row - 1] == t + 1 and destinations[row - 1] == (p + 1) % links
             fill = "hsl(%d,70%%,82%%)" % (row * 137 % 360) if row else "white"
             frame = ("#222", 2) if arrives else ("#bbb", 1)
             out.append('<rect x="%d" y="%d" width="%d" height="%d" fill="%s" stroke="%s" stroke-width="%d"/>' % ((x + 2, y + 2, CELL - 4, CELL - 4, fill) + frame))

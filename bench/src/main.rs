@@ -1,5 +1,5 @@
-//! Times the archive's planner beside Rust planners that scan all rows in each slot, on the same random full tables, and a
-//! sentence of the longest catalogue beside the tests' model.
+//! Times the archive's planner beside Rust planners that scan all cells in each slot, on the same random full tables, of 512
+//! rows of one cell and of 1,024 cells, and a sentence of the longest catalogue beside the tests' model.
 
 mod scan;
 
@@ -14,14 +14,15 @@ const ROWS: usize = 512;
 const TABLES: usize = 100;
 const ROUNDS: usize = 21;
 const SENTENCES: usize = 2001;
+const CELLS: usize = 1024;
 const ENTRIES: usize = NODES as usize * 1024;
 
-/// Scans all rows in each slot, with branches.
+/// Scans all cells in each slot, with branches.
 fn scan(nodes: u16, rows: &[Row], plan: &mut [u16], arrivals: &mut [u16]) -> Answer {
     scan::plan(scan::with_branches, nodes, rows, plan, arrivals)
 }
 
-/// Scans all rows in each slot, with none.
+/// Scans all cells in each slot, with none.
 fn scan_min(nodes: u16, rows: &[Row], plan: &mut [u16], arrivals: &mut [u16]) -> Answer {
     scan::plan(scan::with_minimum, nodes, rows, plan, arrivals)
 }
@@ -45,25 +46,40 @@ impl Areas {
     }
 }
 
-/// A full table with due slots from `low` to `high` past each row's distance, and at most 1,024.
-fn table(random: &mut Random, low: usize, high: usize) -> Vec<Row> {
+/// What a kind of tables is made of: how many cells, and due slots from `low` to `high` past each row's distance, and at most
+/// 1,024.
+#[derive(Clone, Copy)]
+struct Full {
+    cells: usize,
+    low: usize,
+    high: usize,
+}
+
+/// A full table, of rows of one cell, or of rows whose lengths make up so many cells.
+fn table(random: &mut Random, full: Full) -> Vec<Row> {
     let row = |_| {
         let (src, distance) = (random.node(NODES), random.within(1, NODES as usize - 1));
         let dst = ((src as usize + distance) % NODES as usize) as u16;
-        Row {
-            src,
-            dst,
-            due: (distance + random.within(low, high)).min(1024) as u16,
-        }
+        let due = (distance + random.within(full.low, full.high)).min(1024) as u16;
+        Row::single(src, dst, due)
     };
-    (0..ROWS).map(row).collect()
+    let mut rows: Vec<Row> = (0..ROWS).map(row).collect();
+    let mut left = full.cells - ROWS;
+    while left > 0 {
+        let row = &mut rows[random.within(0, ROWS - 1)];
+        if row.len < 64 {
+            row.len += 1;
+            left -= 1;
+        }
+    }
+    rows
 }
 
 /// A hundred tables of one answer, on which the planners agree in every number and entry.
-fn tables(random: &mut Random, low: usize, high: usize, number: u16) -> (Vec<Vec<Row>>, Vec<u16>) {
+fn tables(random: &mut Random, full: Full, number: u16) -> (Vec<Vec<Row>>, Vec<u16>) {
     let (mut found, mut instants) = (Vec::new(), Vec::new());
     while found.len() < TABLES {
-        let rows = table(random, low, high);
+        let rows = table(random, full);
         let outcome = |planner: Planner| {
             let mut areas = Areas::dirty();
             (
@@ -153,10 +169,22 @@ fn compare_sentences() {
 
 fn main() {
     let mut random = Random::new(14);
-    println!("{ROWS} rows, {NODES} nodes; areas filled with a pattern, not cleared, before each call; medians over all calls");
-    let (loose, instants) = tables(&mut random, 400, 1024, 0);
-    compare("not late", &loose, instants);
-    let (late, instants) = tables(&mut random, 0, 300, 9);
-    compare("late", &late, instants);
+    println!("{NODES} nodes, {ROWS} rows; areas filled with a pattern, not cleared, before each call; medians over all calls");
+    for (cells, low, latest) in [(ROWS, 400, 300), (CELLS, 700, 500)] {
+        let loose = Full {
+            cells,
+            low,
+            high: 1024,
+        };
+        let (found, instants) = tables(&mut random, loose, 0);
+        compare(&format!("{cells} cells, not late"), &found, instants);
+        let hurried = Full {
+            cells,
+            low: 0,
+            high: latest,
+        };
+        let (found, instants) = tables(&mut random, hurried, 9);
+        compare(&format!("{cells} cells, late"), &found, instants);
+    }
     compare_sentences();
 }

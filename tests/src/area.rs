@@ -3,7 +3,7 @@
 
 use crate::edit::{refused, Edit};
 use crate::model::fault;
-use crate::panel::{EditAnswer, Link, Row, RowAnswer, Table, LOADS, ROWS};
+use crate::panel::{EditAnswer, Link, Row, RowAnswer, Table, LOADS, PER_ROW, ROWS};
 
 /// The most links that a ring may have.
 const MOST_LINKS: u16 = 32;
@@ -32,12 +32,8 @@ impl Area {
     /// The row in place `number` of the area, where it has so many places.
     pub fn row(&self, number: u16) -> Option<Row> {
         let i = (number as usize).checked_sub(1)?;
-        let place = self.0[ROWS..].chunks_exact(3).nth(i)?;
-        Some(Row {
-            src: place[0],
-            dst: place[1],
-            due: place[2],
-        })
+        let place = self.0[ROWS..].chunks_exact(PER_ROW).nth(i)?;
+        Some(Row::of_numbers(place.try_into().unwrap()))
     }
 
     fn size_refusal(&self) -> Option<u16> {
@@ -68,7 +64,7 @@ impl Area {
         }
     }
 
-    /// Counts a row in or out; a count stays where it would pass 65,535 or 0.
+    /// Counts a row's cells in or out; a count goes no further than 65,535 or 0.
     fn count_row(&mut self, row: Row, step: impl Fn(u16) -> u16) {
         let nodes = self.nodes();
         for p in (0..MOST_LINKS).filter(|&p| crosses(nodes, row, p)) {
@@ -78,17 +74,17 @@ impl Area {
     }
 
     fn count_in(&mut self, row: Row) {
-        self.count_row(row, |load| load.saturating_add(1));
+        self.count_row(row, |load| load.saturating_add(row.len));
     }
 
     fn count_out(&mut self, number: u16) {
         let old = self.row(number).unwrap();
-        self.count_row(old, |load| load.saturating_sub(1));
+        self.count_row(old, |load| load.saturating_sub(old.len));
     }
 
     fn put(&mut self, number: u16, row: Row) {
-        let at = ROWS + 3 * (number as usize - 1);
-        self.0[at..at + 3].copy_from_slice(&[row.src, row.dst, row.due]);
+        let at = ROWS + PER_ROW * (number as usize - 1);
+        self.0[at..at + PER_ROW].copy_from_slice(&row.numbers());
     }
 
     pub fn open(&mut self, nodes: u16) -> EditAnswer {
@@ -118,9 +114,10 @@ impl Area {
             }
             Edit::Remove(number) => {
                 self.count_out(number);
-                let (at, end) = (ROWS + 3 * (number as usize - 1), ROWS + 3 * count as usize);
-                self.0[at..end].rotate_left(3);
-                self.0[end - 3..end].fill(0);
+                let place = |number: u16| ROWS + PER_ROW * (number as usize - 1);
+                let (at, end) = (place(number), place(count + 1));
+                self.0[at..end].rotate_left(PER_ROW);
+                self.0[end - PER_ROW..end].fill(0);
                 self.0[1] = count - 1;
             }
         }
@@ -136,10 +133,11 @@ impl Area {
                 ..RowAnswer::default()
             };
         }
-        let Row { src, dst, due } = self.row(number).unwrap();
+        let Row { src, dst, len, due } = self.row(number).unwrap();
         RowAnswer {
             src,
             dst,
+            len,
             due,
             ..RowAnswer::default()
         }
@@ -166,11 +164,7 @@ impl Area {
 
     /// The rows that a planner would have to be given: places that the area does not have are rows too.
     pub fn rows(&self) -> Vec<Row> {
-        let nothing = Row {
-            src: 0,
-            dst: 0,
-            due: 0,
-        };
+        let nothing = Row::of_numbers([0; PER_ROW]);
         let at = |number| self.row(number).unwrap_or(nothing);
         (1..=self.count()).map(at).collect()
     }

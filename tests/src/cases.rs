@@ -2,8 +2,8 @@
 
 use crate::checker;
 use crate::compare::agree;
-use crate::model::entries;
-use crate::panel::Row;
+use crate::model::{self, cells, entries, LONGEST, MOST_CELLS};
+use crate::panel::{Answer, Row};
 use crate::random::Random;
 use crate::search;
 use std::collections::BTreeMap;
@@ -45,28 +45,58 @@ pub fn each(
     tally
 }
 
-/// A row between two nodes of the ring, due as `due` says of its distance.
+/// A row of one cell between two nodes of the ring, due as `due` says of its distance.
 pub fn row(random: &mut Random, nodes: u16, due: impl FnOnce(&mut Random, usize) -> usize) -> Row {
     let src = random.node(nodes);
     let distance = random.within(1, nodes as usize - 1);
     let dst = ((src as usize + distance) % nodes as usize) as u16;
-    Row {
-        src,
-        dst,
-        due: due(random, distance) as u16,
+    Row::single(src, dst, due(random, distance) as u16)
+}
+
+/// A length from 1 to 64, each of these about as often: 1, some cells, any number, and the most.
+pub fn any_length(random: &mut Random) -> u16 {
+    match random.within(0, 3) {
+        0 => 1,
+        1 => random.within(1, 5) as u16,
+        2 => random.within(1, LONGEST as usize) as u16,
+        _ => LONGEST,
+    }
+}
+
+/// Gives rows of one cell more cells, as long as there are at most `most` in all.
+pub fn lengthen(random: &mut Random, rows: &mut [Row], most: usize) {
+    let mut spare = most.saturating_sub(rows.len());
+    for _ in 0..rows.len() {
+        let row = &mut rows[random.within(0, rows.len() - 1)];
+        let len = any_length(random).max(row.len).min(row.len + spare as u16);
+        spare -= (len - row.len) as usize;
+        row.len = len;
+    }
+}
+
+/// Gives rows more cells until there are `total` in all, where rows of at most 64 can have so many.
+fn fill_to(random: &mut Random, rows: &mut [Row], total: usize) {
+    if rows.len() * LONGEST as usize <= total {
+        return rows.iter_mut().for_each(|r| r.len = LONGEST);
+    }
+    while cells(rows) < total {
+        let spare = total - cells(rows);
+        let row = &mut rows[random.within(0, rows.len() - 1)];
+        let more = random.within(0, (LONGEST - row.len) as usize).min(spare);
+        row.len += more as u16;
     }
 }
 
 fn told(nodes: u16, rows: &[Row], what: String) -> String {
     let rows: Vec<String> = rows
         .iter()
-        .map(|r| format!("{}>{}/{}", r.src, r.dst, r.due))
+        .map(|r| format!("{}>{}*{}/{}", r.src, r.dst, r.len, r.due))
         .collect();
     format!("{what}\n{nodes}; {}", rows.join(", "))
 }
 
-/// A small table against the model, the search and the checker.
-pub fn small(random: &mut Random) -> Result<&'static str, String> {
+/// A table small enough for the search: up to five rows, and seven cells in all.
+fn small_table(random: &mut Random) -> (u16, Vec<Row>) {
     let nodes = random.within(2, 5) as u16;
     let count = random.within(0, 5).max(random.within(0, 5));
     let near = !random.once_in(4);
@@ -88,11 +118,34 @@ pub fn small(random: &mut Random) -> Result<&'static str, String> {
             .filter(|r| r.dst != src)
             .for_each(|r| r.src = src);
     }
+    if !rows.is_empty() && !random.once_in(3) {
+        for _ in count..random.within(count, search::MOST_CELLS) {
+            let i = random.within(0, count - 1);
+            rows[i].len += 1;
+            // most often a cell more has a slot more
+            rows[i].due += u16::from(rows[i].due < 7 && !random.once_in(4));
+        }
+    }
+    (nodes, rows)
+}
+
+/// A small table against the model, the search and the checker.
+pub fn small(random: &mut Random) -> Outcome {
+    let (nodes, rows) = small_table(random);
     judged(random, nodes, &rows)
 }
 
-/// A table of at most five rows, whose answer must be 9 exactly when no legal schedule meets it.
-pub fn judged(random: &mut Random, nodes: u16, rows: &[Row]) -> Result<&'static str, String> {
+/// A small table that only the model plans, against the search and the checker. No function of the panel is called.
+pub fn modelled(random: &mut Random) -> Outcome {
+    let (nodes, rows) = small_table(random);
+    let mut plan = vec![0; entries(nodes, &rows)];
+    let mut arrivals = vec![0; rows.len()];
+    let answer = model::plan(nodes, &rows, &mut plan, &mut arrivals);
+    sound(nodes, &rows, answer, &plan, &arrivals)
+}
+
+/// A table of at most seven cells, whose answer must be 9 exactly when no legal schedule meets it.
+pub fn judged(random: &mut Random, nodes: u16, rows: &[Row]) -> Outcome {
     let tell = |what: String| told(nodes, rows, what);
     let needed = entries(nodes, rows);
     let (plan_len, arrivals_len) = (
@@ -100,20 +153,21 @@ pub fn judged(random: &mut Random, nodes: u16, rows: &[Row]) -> Result<&'static 
         rows.len() + random.within(0, 3),
     );
     let planned = agree(random, nodes, rows, plan_len, arrivals_len).map_err(tell)?;
-    match (planned.answer.number, search::schedule(nodes, rows)) {
+    let (plan, arrivals) = (&planned.plan[..needed], &planned.arrivals[..rows.len()]);
+    sound(nodes, rows, planned.answer, plan, arrivals)
+}
+
+/// Holds an outcome to the search and the checker: that of a table of at most seven cells.
+fn sound(nodes: u16, rows: &[Row], answer: Answer, plan: &[u16], arrivals: &[u16]) -> Outcome {
+    let tell = |what: String| told(nodes, rows, what);
+    match (answer.number, search::schedule(nodes, rows)) {
         (0, Some(found)) => {
             checker::check(nodes, rows, &found)
                 .map_err(|e| tell(format!("the search's own schedule: {e}")))?;
-            checked(
-                nodes,
-                rows,
-                &planned.plan[..needed],
-                &planned.arrivals[..rows.len()],
-            )
-            .map_err(tell)?;
+            checked(nodes, rows, plan, arrivals).map_err(tell)?;
             Ok("accepted")
         }
-        (9, None) if planned.answer.slot == 0 => Ok("late at once"),
+        (9, None) if answer.slot == 0 => Ok("late at once"),
         (9, None) => Ok("late"),
         (0, None) => Err(tell("accepted, and no schedule meets it".to_string())),
         (9, Some(found)) => Err(tell(format!("late, and this schedule meets it: {found:?}"))),
@@ -129,16 +183,16 @@ fn checked(nodes: u16, rows: &[Row], plan: &[u16], arrivals: &[u16]) -> Result<(
     checker::follows_rule(nodes, rows, plan)
 }
 
-/// Delivery instants of a schedule that sends at random, and so slots by which every row can be there.
+/// Delivery instants of a schedule that sends cells at random, and so slots by which every row can be there.
 fn reachable(random: &mut Random, nodes: u16, rows: &[Row]) -> Vec<u16> {
     let n = nodes as usize;
     let idle = random.within(4, 40);
     let mut held: Vec<Vec<usize>> = vec![Vec::new(); n];
     for (i, r) in rows.iter().enumerate() {
-        held[r.src as usize].push(i);
+        held[r.src as usize].extend((0..r.len).map(|_| i));
     }
     let mut arrived = vec![0; rows.len()];
-    let mut left = rows.len();
+    let mut left = cells(rows);
     let mut t = 0;
     while left > 0 {
         t += 1;
@@ -173,7 +227,7 @@ pub enum Dues {
     Cut,
 }
 
-/// Sets due slots so early that most often some row is late: a node that sends one row in each slot can't send m rows that
+/// Sets due slots so early that most often some row is late: a node that sends one cell in each slot can't send m cells that
 /// must all have left before m slots are over.
 fn cut(random: &mut Random, nodes: u16, rows: &mut [Row]) {
     let distance = |r: &Row| (r.dst + nodes - r.src) % nodes;
@@ -185,10 +239,12 @@ fn cut(random: &mut Random, nodes: u16, rows: &mut [Row]) {
         }
         return;
     }
-    let m = rows.iter().filter(|r| r.src == one.src).count();
+    let from_there = rows.iter().filter(|r| r.src == one.src);
+    let m: usize = from_there.map(|r| r.len as usize).sum();
     let short = random.within(1, 3);
     for r in rows.iter_mut().filter(|r| r.src == one.src) {
-        r.due = distance(r) + random.within(0, m.saturating_sub(short)) as u16;
+        let behind = random.within(0, m.saturating_sub(short)) as u16;
+        r.due = (distance(r) + behind.max(r.len - 1)).min(1024);
     }
 }
 
@@ -207,9 +263,19 @@ pub fn large_table(random: &mut Random, nodes: u16, count: usize, dues: Dues) ->
             }
         }
     }
+    match random.within(0, 3) {
+        0 => {}
+        1 => fill_to(random, &mut rows, MOST_CELLS),
+        _ => lengthen(random, &mut rows, MOST_CELLS),
+    }
     if dues != Dues::Loose {
         let spare = random.within(0, 1);
-        let instants = reachable(random, nodes, &rows);
+        let mut instants = reachable(random, nodes, &rows);
+        while instants.iter().any(|&at| at + spare as u16 > 1024) {
+            // too many cells for one link
+            rows.iter_mut().for_each(|r| r.len = r.len.div_ceil(2));
+            instants = reachable(random, nodes, &rows);
+        }
         for (r, at) in rows.iter_mut().zip(instants) {
             r.due = at + random.within(0, spare) as u16;
         }
@@ -285,7 +351,7 @@ pub fn faulty(random: &mut Random) -> Result<&'static str, String> {
     let mut arrivals_len = count + random.within(0, 2);
     for _ in 0..random.within(0, 3) {
         let i = random.within(0, rows.len() - 1);
-        match random.within(1, 8) {
+        match random.within(1, 10) {
             1 => nodes = [0, 1, 33, 34, 64, 65535][random.within(0, 5)],
             2 => {
                 let more = random.within(513, 700);
@@ -295,7 +361,13 @@ pub fn faulty(random: &mut Random) -> Result<&'static str, String> {
             4 => rows[i].dst = [nodes, nodes.saturating_add(1), 65535][random.within(0, 2)],
             5 => rows[i].dst = rows[i].src,
             6 => rows[i].due = [0, 1025, 1026, 65535][random.within(0, 3)],
-            7 => {
+            7 => rows[i].len = [0, 65, 66, 65535][random.within(0, 3)],
+            8 => {
+                let total = MOST_CELLS + [0, 1, 2, 500, 40_000][random.within(0, 4)];
+                rows.iter_mut().for_each(|r| r.len = 1);
+                fill_to(random, &mut rows, total)
+            }
+            9 => {
                 plan_len =
                     [0, needed / 2, needed.saturating_sub(2), needed - 1][random.within(0, 3)]
             }
@@ -307,5 +379,10 @@ pub fn faulty(random: &mut Random) -> Result<&'static str, String> {
     }
     let planned = agree(random, nodes, &rows, plan_len, arrivals_len)
         .map_err(|what| told(nodes, &rows, what))?;
-    Ok(["accepted", "1", "2", "3", "4", "5", "6", "7", "8", "9"][planned.answer.number as usize])
+    Ok(ANSWERS[planned.answer.number as usize])
 }
+
+/// The names of the planner's answers.
+pub const ANSWERS: [&str; 12] = [
+    "accepted", "1", "2", "3", "4", "5", "6", "7", "8", "9", "10", "11",
+];

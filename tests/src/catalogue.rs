@@ -5,7 +5,9 @@ use crate::panel::{EditAnswer, SentenceAnswer};
 use std::collections::{BTreeMap, BTreeSet};
 
 /// The answers that have a sentence: acceptance, and every refusal so far.
-pub const NUMBERS: [u16; 18] = [0, 1, 2, 3, 4, 5, 6, 7, 8, 9, 12, 20, 21, 22, 30, 31, 32, 33];
+pub const NUMBERS: [u16; 20] = [
+    0, 1, 2, 3, 4, 5, 6, 7, 8, 9, 10, 11, 12, 20, 21, 22, 30, 31, 32, 33,
+];
 
 /// The fields that have a label.
 pub const FIELDS: [u16; 6] = [1, 2, 3, 4, 5, 6];

@@ -1,8 +1,8 @@
 //! A table under edit, written from document 02 alone: a ring and its rows. Loads are counted afresh whenever they are asked
-//! for, by walking every row from node to node, so nothing here has to be kept in step.
+//! for, by walking every row from node to node with all its cells, so nothing here has to be kept in step.
 
 use crate::model::fault;
-use crate::panel::{self, EditAnswer, Row, Table, LOADS, ROWS, TABLE};
+use crate::panel::{self, EditAnswer, Row, Table, LOADS, PER_ROW, ROWS, TABLE};
 
 /// The most rows that a table may have.
 const MOST_ROWS: usize = 512;
@@ -87,8 +87,8 @@ impl Entered {
         area[0] = self.nodes;
         area[1] = self.rows.len() as u16;
         for (i, &row) in self.rows.iter().enumerate() {
-            way(self.nodes, row).for_each(|p| area[LOADS + p as usize] += 1);
-            area[ROWS + 3 * i..][..3].copy_from_slice(&[row.src, row.dst, row.due]);
+            way(self.nodes, row).for_each(|p| area[LOADS + p as usize] += row.len);
+            area[ROWS + PER_ROW * i..][..PER_ROW].copy_from_slice(&row.numbers());
         }
         area
     }

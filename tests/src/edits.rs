@@ -1,9 +1,9 @@
 //! Tables edited at random at the panel, right and wrong edits mixed, and areas damaged at random.
 
-use crate::cases::{row, Outcome};
+use crate::cases::{any_length, row, Outcome};
 use crate::desk::Desk;
 use crate::edit::{Edit, Entered};
-use crate::panel::{Row, Table, LOADS, ROWS, TABLE};
+use crate::panel::{Row, Table, LOADS, PER_ROW, ROWS, TABLE};
 use crate::random::Random;
 use std::collections::{BTreeMap, BTreeSet};
 
@@ -32,18 +32,25 @@ enum Dues {
 }
 
 fn good_row(random: &mut Random, nodes: u16, dues: Dues) -> Row {
-    row(random, nodes, |random, distance| match dues {
+    let len = match dues {
+        Dues::Near => random.within(1, 3) as u16,
+        _ if random.once_in(4) => any_length(random),
+        _ => 1,
+    };
+    let row = row(random, nodes, |random, distance| match dues {
         Dues::Loose => random.within(620, 1024),
-        Dues::Near => distance + random.within(0, 4),
+        Dues::Near => distance + (len as usize - 1) + random.within(0, 4),
         Dues::Any => random.within(1, 1024),
-    })
+    });
+    Row { len, ..row }
 }
 
 /// One to three faults, so that the order of the refusals counts.
 fn spoil(random: &mut Random, nodes: u16, row: &mut Row) {
     for _ in 0..random.within(1, 3) {
         let off = [nodes, nodes.saturating_add(1), 32, 65535][random.within(0, 3)];
-        match random.within(3, 6) {
+        match random.within(2, 6) {
+            2 => row.len = [0, 65, 66, 65535][random.within(0, 3)],
             3 => row.src = off,
             4 => row.dst = off,
             5 => row.dst = row.src,
@@ -187,7 +194,7 @@ fn damage(random: &mut Random, area: &mut Table) {
         5 => {
             let row = random.within(0, 511);
             let off = [0, area[0], area[0].saturating_add(1), 65535][random.within(0, 3)];
-            area[ROWS + 3 * row + random.within(0, 2)] = off;
+            area[ROWS + PER_ROW * row + random.within(0, PER_ROW - 1)] = off;
         }
         6 => area[2..].copy_from_slice(&random.pattern(TABLE - 2)),
         _ => area[random.within(0, TABLE - 1)] = random.word() as u16,

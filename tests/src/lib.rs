@@ -15,3 +15,4 @@ pub mod random;
 pub mod search;
 pub mod text;
 pub mod texts;
+pub mod worked;

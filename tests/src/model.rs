@@ -1,29 +1,40 @@
-//! The planner of document 01, written from its words alone: messages that stand at nodes, and nodes that hold them.
+//! The planner of documents 01 and 02, written from their words alone: cells that stand at nodes, and nodes that hold them.
 
 use crate::panel::{Answer, Row};
 
-struct Message {
-    number: u16,
+/// The most cells of a row, and of all rows together.
+pub const LONGEST: u16 = 64;
+pub const MOST_CELLS: usize = 1024;
+
+/// One cell of a row: the `place`th of `len`, counted from 1.
+struct Cell {
+    row: u16,
+    place: u16,
+    len: u16,
     to: u16,
+    /// The row's due slot less the cells that come after this one, which may be below 0.
     due: i64,
 }
 
 struct Ring {
     nodes: u16,
-    /// The messages that each node holds, in no order.
-    held: Vec<Vec<Message>>,
+    /// The cells that each node holds, in no order.
+    held: Vec<Vec<Cell>>,
     now: u16,
 }
 
 impl Ring {
     fn start(nodes: u16, rows: &[Row]) -> Ring {
-        let mut held: Vec<Vec<Message>> = (0..nodes).map(|_| Vec::new()).collect();
+        let mut held: Vec<Vec<Cell>> = (0..nodes).map(|_| Vec::new()).collect();
         for (number, row) in (1..).zip(rows) {
-            held[row.src as usize].push(Message {
-                number,
+            let cell = |place| Cell {
+                row: number,
+                place,
+                len: row.len,
                 to: row.dst,
-                due: i64::from(row.due),
-            });
+                due: i64::from(row.due) - i64::from(row.len - place),
+            };
+            held[row.src as usize].extend((1..=row.len).map(cell));
         }
         Ring {
             nodes,
@@ -40,48 +51,48 @@ impl Ring {
         }
     }
 
-    fn slack(&self, at: u16, m: &Message) -> i64 {
-        (m.due - i64::from(self.now)) - i64::from(self.to_go(at, m.to))
+    fn slack(&self, at: u16, cell: &Cell) -> i64 {
+        (cell.due - i64::from(self.now)) - i64::from(self.to_go(at, cell.to))
     }
 
     fn is_empty(&self) -> bool {
         self.held.iter().all(Vec::is_empty)
     }
 
-    /// The lowest row whose slack is below zero.
+    /// The lowest row of which a cell's slack is below zero.
     fn late(&self) -> Option<u16> {
         let at_node = |p: u16| {
             self.held[p as usize]
                 .iter()
-                .filter(move |m| self.slack(p, m) < 0)
-                .map(|m| m.number)
+                .filter(move |cell| self.slack(p, cell) < 0)
+                .map(|cell| cell.row)
         };
         (0..self.nodes).flat_map(at_node).min()
     }
 
-    /// One slot: each node picks its message, and then all of them move. What each link carried.
+    /// One slot: each node picks its cell, and then all of them move. The row that each link carried a cell of.
     fn send(&mut self, arrivals: &mut [u16]) -> Vec<u16> {
-        let mut under_way: Vec<Option<Message>> = Vec::new();
+        let mut under_way: Vec<Option<Cell>> = Vec::new();
         for p in 0..self.nodes {
             let best = self.held[p as usize]
                 .iter()
                 .enumerate()
-                .min_by_key(|(_, m)| (self.slack(p, m), m.number))
+                .min_by_key(|(_, cell)| (self.slack(p, cell), cell.row, cell.place))
                 .map(|(i, _)| i);
             under_way.push(best.map(|i| self.held[p as usize].swap_remove(i)));
         }
         self.now += 1;
         let carried = under_way
             .iter()
-            .map(|m| m.as_ref().map_or(0, |m| m.number))
+            .map(|cell| cell.as_ref().map_or(0, |cell| cell.row))
             .collect();
-        for (p, m) in (0..self.nodes).zip(under_way) {
-            let Some(m) = m else { continue };
+        for (p, cell) in (0..self.nodes).zip(under_way) {
+            let Some(cell) = cell else { continue };
             let next = if p + 1 == self.nodes { 0 } else { p + 1 };
-            if next == m.to {
-                arrivals[m.number as usize - 1] = self.now;
-            } else {
-                self.held[next as usize].push(m);
+            if next != cell.to {
+                self.held[next as usize].push(cell);
+            } else if cell.place == cell.len {
+                arrivals[cell.row as usize - 1] = self.now;
             }
         }
         carried
@@ -105,6 +116,8 @@ pub fn fault(nodes: u16, row: &Row) -> Option<u16> {
         Some(4)
     } else if row.src == row.dst {
         Some(5)
+    } else if !(1..=LONGEST).contains(&row.len) {
+        Some(10)
     } else if !(1..=1024).contains(&row.due) {
         Some(6)
     } else {
@@ -112,7 +125,12 @@ pub fn fault(nodes: u16, row: &Row) -> Option<u16> {
     }
 }
 
-/// The first of refusals 1 to 6 that holds.
+/// The cells of all rows together.
+pub fn cells(rows: &[Row]) -> usize {
+    rows.iter().map(|r| r.len as usize).sum()
+}
+
+/// The first refusal that holds, of those that stand before 7.
 fn unfit(nodes: u16, rows: &[Row]) -> Option<Answer> {
     if !(2..=32).contains(&nodes) {
         return Some(refused(1, 0, 0));
@@ -123,6 +141,7 @@ fn unfit(nodes: u16, rows: &[Row]) -> Option<Answer> {
     (1..)
         .zip(rows)
         .find_map(|(number, row)| fault(nodes, row).map(|f| refused(f, number, 0)))
+        .or((cells(rows) > MOST_CELLS).then_some(refused(11, 0, 0)))
 }
 
 /// Entries that the plan of a good table has.
@@ -150,7 +169,7 @@ pub fn plan(nodes: u16, rows: &[Row], plan: &mut [u16], arrivals: &mut [u16]) ->
     let mut ring = Ring::start(nodes, rows);
     let sends: u32 = rows
         .iter()
-        .map(|r| u32::from(ring.to_go(r.src, r.dst)))
+        .map(|r| u32::from(ring.to_go(r.src, r.dst)) * u32::from(r.len))
         .sum();
     while !ring.is_empty() {
         if let Some(row) = ring.late() {

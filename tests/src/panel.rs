@@ -5,7 +5,30 @@
 pub struct Row {
     pub src: u16,
     pub dst: u16,
+    pub len: u16,
     pub due: u16,
+}
+
+impl Row {
+    /// A row of one cell.
+    pub const fn single(src: u16, dst: u16, due: u16) -> Row {
+        Row {
+            src,
+            dst,
+            len: 1,
+            due,
+        }
+    }
+
+    /// The numbers in the order in which they stand in an area.
+    pub fn numbers(self) -> [u16; PER_ROW] {
+        [self.src, self.dst, self.len, self.due]
+    }
+
+    pub fn of_numbers(numbers: [u16; PER_ROW]) -> Row {
+        let [src, dst, len, due] = numbers;
+        Row { src, dst, len, due }
+    }
 }
 
 #[repr(C)]
@@ -56,14 +79,17 @@ pub struct WriteAnswer {
     pub length: usize,
 }
 
+/// Numbers of one row.
+pub const PER_ROW: usize = 4;
+
 /// Numbers of an area that holds a table for editing.
-pub const TABLE: usize = 1_570;
+pub const TABLE: usize = 2_082;
 
 /// The place of link 0's load in such an area, and of row 1.
 pub const LOADS: usize = 2;
 pub const ROWS: usize = 34;
 
-/// `struct garboardle_table` as the plain numbers that it is: nodes, rows, 32 loads, and 512 rows of three.
+/// `struct garboardle_table` as the plain numbers that it is: nodes, rows, 32 loads, and 512 rows of four.
 pub type Table = [u16; TABLE];
 
 #[repr(C)]
@@ -82,6 +108,7 @@ pub struct RowAnswer {
     pub slot: u16,
     pub src: u16,
     pub dst: u16,
+    pub len: u16,
     pub due: u16,
 }
 

@@ -57,7 +57,8 @@ impl Random {
                 Row {
                     src: word as u16,
                     dst: (word >> 16) as u16,
-                    due: (word >> 32) as u16,
+                    len: (word >> 32) as u16,
+                    due: (word >> 48) as u16,
                 }
             })
             .collect()

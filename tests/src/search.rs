@@ -1,58 +1,82 @@
-//! Every legal schedule of a small table, idling included: all states that can be reached, slot by slot.
+//! Every legal schedule of a small table, idling included: all states that can be reached, slot by slot. A schedule names
+//! rows, and a named row moves its earliest cell at that node; a cell has no due slot of its own here.
 
 use crate::panel::Row;
 
-/// At most so many rows, and distances below 8: a state is three bits for each row, the links that it has gone.
-const MOST_ROWS: usize = 5;
+/// At most so many cells, and distances below 8: a state is three bits for each cell, the links that it has gone.
+pub const MOST_CELLS: usize = 7;
 
 #[derive(Clone, Copy)]
 struct Reached {
     state: usize,
     /// The state that it was reached from, in the slot before.
     from: usize,
-    /// What each link carried on the way.
+    /// The row that each link carried a cell of on the way.
     slot: [u16; 8],
 }
 
-fn gone(state: usize, i: usize) -> usize {
-    state >> (3 * i) & 7
+/// A cell, by the index of its row, where it starts, and how far it has to go.
+struct Cell {
+    row: usize,
+    src: usize,
+    distance: usize,
+}
+
+fn gone(state: usize, cell: usize) -> usize {
+    state >> (3 * cell) & 7
+}
+
+/// The cells of all rows, those of one row in their order.
+fn cells(n: usize, rows: &[Row]) -> Vec<Cell> {
+    let of_row = |(row, r): (usize, &Row)| {
+        let (src, dst) = (r.src as usize, r.dst as usize);
+        let distance = (dst + n - src) % n;
+        (0..r.len).map(move |_| Cell { row, src, distance })
+    };
+    rows.iter().enumerate().flat_map(of_row).collect()
+}
+
+/// What link p may carry: for each row that has undelivered cells at node p, the row and the earliest of these cells.
+fn choices(n: usize, cells: &[Cell], state: usize) -> Vec<Vec<(usize, usize)>> {
+    let mut held: Vec<Vec<(usize, usize)>> = vec![Vec::new(); n];
+    for (c, cell) in cells.iter().enumerate() {
+        let k = gone(state, c);
+        let here = &mut held[(cell.src + k) % n];
+        if k < cell.distance && here.iter().all(|&(row, _)| row != cell.row) {
+            here.push((cell.row, c));
+        }
+    }
+    held
 }
 
 /// A schedule that is legal and meets the table, if there is one.
 pub fn schedule(nodes: u16, rows: &[Row]) -> Option<Vec<u16>> {
     let n = nodes as usize;
-    assert!(rows.len() <= MOST_ROWS && n <= 8);
-    let distance: Vec<usize> = rows
-        .iter()
-        .map(|r| (r.dst as usize + n - r.src as usize) % n)
-        .collect();
+    let cells = cells(n, rows);
+    assert!(cells.len() <= MOST_CELLS && n <= 8);
+    let there = |state: usize, c: usize| gone(state, c) == cells[c].distance;
     let slots = rows.iter().map(|r| r.due as usize).max().unwrap_or(0);
     let mut layers = vec![vec![Reached {
         state: 0,
         from: 0,
         slot: [0; 8],
     }]];
-    let mut seen = vec![usize::MAX; 1 << (3 * rows.len())];
+    let mut seen = vec![u16::MAX; 1 << (3 * cells.len())];
 
     for t in 0..slots {
         let mut next = Vec::new();
         for (from, reached) in layers[t].iter().enumerate() {
-            let mut held = vec![Vec::new(); n];
-            for (i, row) in rows.iter().enumerate() {
-                let k = gone(reached.state, i);
-                if k < distance[i] {
-                    held[(row.src as usize + k) % n].push(i);
-                }
-            }
-            let mut start = *reached;
-            start.from = from;
-            start.slot = [0; 8];
-            spread(&held, 0, start, &mut |r| {
-                // a row that isn't there when its due slot has come makes the schedule miss the table
-                let meets = (0..rows.len())
-                    .all(|i| gone(r.state, i) == distance[i] || t + 1 < rows[i].due as usize);
-                if meets && seen[r.state] != t {
-                    seen[r.state] = t;
+            let start = Reached {
+                state: reached.state,
+                from,
+                slot: [0; 8],
+            };
+            spread(&choices(n, &cells, reached.state), 0, start, &mut |r| {
+                // a cell that isn't there when its row's due slot has come makes the schedule miss the table
+                let in_time =
+                    |c: usize| there(r.state, c) || t + 1 < rows[cells[c].row].due as usize;
+                if seen[r.state] != t as u16 && (0..cells.len()).all(in_time) {
+                    seen[r.state] = t as u16;
                     next.push(r);
                 }
             });
@@ -60,11 +84,9 @@ pub fn schedule(nodes: u16, rows: &[Row]) -> Option<Vec<u16>> {
         layers.push(next);
     }
 
-    let end = layers[slots]
-        .iter()
-        .position(|r| (0..rows.len()).all(|i| gone(r.state, i) == distance[i]))?;
+    let all_there = |r: &Reached| (0..cells.len()).all(|c| there(r.state, c));
+    let mut at = layers[slots].iter().position(all_there)?;
     let mut plan = vec![0; slots * n];
-    let mut at = end;
     for t in (1..=slots).rev() {
         let r = &layers[t][at];
         plan[(t - 1) * n..t * n].copy_from_slice(&r.slot[..n]);
@@ -73,17 +95,17 @@ pub fn schedule(nodes: u16, rows: &[Row]) -> Option<Vec<u16>> {
     Some(plan)
 }
 
-/// Each choice of links p and up: idle, or one of the rows that the node holds.
-fn spread(held: &[Vec<usize>], p: usize, r: Reached, found: &mut impl FnMut(Reached)) {
-    if p == held.len() {
+/// Each choice of links p and up: idle, or one of the rows that have cells at the node.
+fn spread(choices: &[Vec<(usize, usize)>], p: usize, r: Reached, found: &mut impl FnMut(Reached)) {
+    if p == choices.len() {
         found(r);
         return;
     }
-    spread(held, p + 1, r, found);
-    for &i in &held[p] {
+    spread(choices, p + 1, r, found);
+    for &(row, cell) in &choices[p] {
         let mut with = r;
-        with.state += 1 << (3 * i);
-        with.slot[p] = i as u16 + 1;
-        spread(held, p + 1, with, found);
+        with.state += 1 << (3 * cell);
+        with.slot[p] = row as u16 + 1;
+        spread(choices, p + 1, with, found);
     }
 }

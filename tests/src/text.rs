@@ -1,4 +1,4 @@
-//! The table as text, written from document 01 alone: lines are cut out first, and then each is held to the one numeral that it may have.
+//! The table as text, written from documents 01 and 02 alone: lines are cut out first, and then each is held to the one numeral that it may have.
 
 use crate::panel::{ReadAnswer, Row, WriteAnswer};
 
@@ -9,7 +9,8 @@ const MOST_ROWS: u16 = 512;
 pub fn text(nodes: u16, rows: &[Row]) -> Vec<u8> {
     let mut lines = format!("nodes={nodes}\nrows={}\n", rows.len());
     for row in rows {
-        lines += &format!("src={}\ndst={}\ndue={}\n", row.src, row.dst, row.due);
+        let Row { src, dst, len, due } = row;
+        lines += &format!("src={src}\ndst={dst}\nlen={len}\ndue={due}\n");
     }
     lines.into_bytes()
 }
@@ -70,8 +71,9 @@ fn table(text: &[u8], lent: usize) -> Result<(u16, Vec<Row>), ReadAnswer> {
     for _ in 0..count {
         let src = lines.next("src")?;
         let dst = lines.next("dst")?;
+        let len = lines.next("len")?;
         let due = lines.next("due")?;
-        rows.push(Row { src, dst, due });
+        rows.push(Row { src, dst, len, due });
     }
     match lines.lines.next() {
         None => Ok((nodes, rows)),

@@ -106,6 +106,7 @@ pub fn any_rows(random: &mut Random, count: usize) -> Vec<Row> {
         .map(|_| Row {
             src: random.numeral(),
             dst: random.numeral(),
+            len: random.numeral(),
             due: random.numeral(),
         })
         .collect()
@@ -171,7 +172,7 @@ pub fn there_and_back(random: &mut Random) -> Result<&'static str, String> {
 
 /// A fault of some kind in a text.
 pub fn harm(random: &mut Random, bytes: &mut Vec<u8>) {
-    let telling = b"0123456789=\n\r +-.,\0\xffndxsrcoueqt";
+    let telling = b"0123456789=\n\r +-.,\0\xffndxsrcoueqtl";
     let byte = telling[random.within(0, telling.len() - 1)];
     let at = random.within(0, bytes.len());
     let lines: Vec<Vec<u8>> = bytes

@@ -4,12 +4,18 @@ use panel_tests::cases::{each, Outcome};
 use panel_tests::desk::Desk;
 use panel_tests::edit::Edit;
 use panel_tests::edits::{damaged, few, full, Met};
-use panel_tests::panel::{self, EditAnswer, Link, Row, RowAnswer, Table, LOADS, ROWS, TABLE};
+use panel_tests::panel::{
+    self, EditAnswer, Link, Row, RowAnswer, Table, LOADS, PER_ROW, ROWS, TABLE,
+};
 use panel_tests::random::Random;
 use std::collections::BTreeMap;
 
 fn row(src: u16, dst: u16, due: u16) -> Row {
-    Row { src, dst, due }
+    Row::single(src, dst, due)
+}
+
+fn block(src: u16, dst: u16, len: u16, due: u16) -> Row {
+    Row { src, dst, len, due }
 }
 
 /// An area under test. The models have agreed to every call of it, so what a test says of the answers stands beside them.
@@ -86,7 +92,7 @@ impl Tried {
     fn shown(&self, number: u16) -> Row {
         let a = panel::row_of(self.desk.table(), number);
         assert_eq!((a.number, a.row, a.slot), (0, 0, 0));
-        row(a.src, a.dst, a.due)
+        block(a.src, a.dst, a.len, a.due)
     }
 
     fn not_shown(&self, number: u16) -> (u16, u16) {
@@ -123,25 +129,25 @@ fn at_random(
 
 #[test]
 fn tables_filled_and_emptied() {
-    let every = [0, 2, 3, 4, 5, 6, 12];
-    at_random(full, (8_000_000, 240), &every, &[0, 7, 8, 9], 50);
+    let every = [0, 2, 3, 4, 5, 6, 10, 12];
+    at_random(full, (8_000_000, 240), &every, &[0, 7, 8, 9, 11], 50);
 }
 
 #[test]
 fn tables_of_few_rows() {
-    let every = [0, 3, 4, 5, 6, 12];
+    let every = [0, 3, 4, 5, 6, 10, 12];
     let met = at_random(few, (8_100_000, 12_000), &every, &[0, 7, 8, 9], 500);
     assert!(met.rings.len() == 31 || std::env::var("SEED").is_ok());
 }
 
 #[test]
 fn areas_that_somebody_damaged() {
-    let every = [0, 1, 2, 3, 4, 5, 6, 12];
+    let every = [0, 1, 2, 3, 4, 5, 6, 10, 12];
     at_random(
         damaged,
         (8_200_000, 40_000),
         &every,
-        &[0, 1, 2, 3, 4, 5, 6],
+        &[0, 1, 2, 3, 4, 5, 6, 10, 11],
         50,
     );
 }
@@ -270,11 +276,18 @@ fn rows_that_are_wrong() {
     let before = *tried.desk.table();
     for (number, row) in [
         (3, row(4, 1, 1)),
+        (3, block(4, 1, 0, 1)),
+        (4, block(0, 4, 65, 1)),
         (3, row(65535, 65535, 0)),
         (4, row(0, 4, 1)),
         (4, row(3, 65535, 0)),
         (5, row(3, 3, 1)),
         (5, row(0, 0, 1025)),
+        (5, block(0, 0, 0, 1)),
+        (10, block(3, 0, 0, 1)),
+        (10, block(3, 0, 65, 1)),
+        (10, block(3, 0, 66, 0)),
+        (10, block(3, 0, 65535, 1025)),
         (6, row(3, 0, 0)),
         (6, row(0, 3, 1025)),
         (6, row(0, 3, 65535)),
@@ -284,6 +297,49 @@ fn rows_that_are_wrong() {
         assert_eq!(tried.change(2, row), (number, 2));
     }
     assert_eq!(tried.desk.table(), &before);
+}
+
+#[test]
+fn loads_count_cells() {
+    let mut tried = Tried::with(4, &[block(0, 2, 5, 9), block(3, 1, 64, 9)]);
+    assert_eq!(tried.loads(), [69, 5, 0, 64]);
+    assert_eq!(tried.shown(2), block(3, 1, 64, 9));
+    assert_eq!(tried.busiest(), (0, 69));
+    assert_eq!(tried.change(1, block(0, 2, 1, 9)), (0, 0));
+    assert_eq!(tried.loads(), [65, 1, 0, 64]);
+    assert_eq!(tried.change(2, block(2, 0, 3, 9)), (0, 0));
+    assert_eq!(tried.loads(), [1, 1, 3, 3]);
+    assert_eq!(tried.busiest(), (2, 3));
+    assert_eq!(tried.remove(2), (0, 0));
+    assert_eq!(tried.loads(), [1, 1, 0, 0]);
+    for len in 1..=64 {
+        assert_eq!(tried.change(1, block(1, 0, len, 9)), (0, 0));
+        assert_eq!(tried.loads(), [0, len, len, len]);
+        assert_eq!(tried.add(block(1, 0, len, 9)), (0, 0));
+        assert_eq!(tried.loads(), [0, 2 * len, 2 * len, 2 * len]);
+        assert_eq!(tried.remove(2), (0, 0));
+    }
+}
+
+#[test]
+fn editing_never_counts_the_cells_of_all_rows() {
+    // 17 rows of 64 are too many for a plan, and 512 of them too; none is for an edit
+    let mut tried = Tried::with(2, &[block(0, 1, 64, 1024); 16]);
+    assert_eq!(tried.plan(2048, 16), 0);
+    assert_eq!(tried.add(row(1, 0, 9)), (0, 0));
+    assert_eq!(tried.plan(2048, 17), 11);
+    assert_eq!(tried.plan(0, 0), 11);
+    assert_eq!(tried.change(17, block(0, 1, 64, 9)), (0, 0));
+    for _ in 17..512 {
+        assert_eq!(tried.add(block(0, 1, 64, 1024)), (0, 0));
+    }
+    assert_eq!(tried.loads(), [32_768, 0]);
+    assert_eq!(tried.plan(2048, 512), 11);
+    for _ in 16..512 {
+        assert_eq!(tried.remove(1), (0, 0));
+    }
+    assert_eq!(tried.loads(), [1_024, 0]);
+    assert_eq!(tried.plan(2048, 16), 0);
 }
 
 #[test]
@@ -299,7 +355,10 @@ fn removing_closes_the_gap() {
         assert_eq!(numbers, left);
         assert_eq!(tried.not_shown(4), (12, 4));
         assert_eq!(tried.desk.table(), Tried::with(4, &left).desk.table());
-        assert_eq!(tried.desk.table()[ROWS + 9..], [0; TABLE - ROWS - 9]);
+        assert_eq!(
+            tried.desk.table()[ROWS + 3 * PER_ROW..],
+            [0; TABLE - ROWS - 3 * PER_ROW]
+        );
     }
 }
 
@@ -370,7 +429,7 @@ fn damaged_by(row: Row, loads: [u16; 6]) -> Tried {
     let mut numbers = [0; TABLE];
     (numbers[0], numbers[1]) = (4, 1);
     numbers[LOADS..LOADS + 6].copy_from_slice(&loads);
-    numbers[ROWS..ROWS + 3].copy_from_slice(&[row.src, row.dst, row.due]);
+    numbers[ROWS..ROWS + PER_ROW].copy_from_slice(&row.numbers());
     Tried::area(numbers)
 }
 
@@ -391,6 +450,15 @@ fn counts_that_cannot_go_on() {
     assert_eq!(tried.remove(1), (0, 0));
     assert_eq!(tried.remove(1), (12, 1));
     assert_eq!(tried.loads(), [most - 1, 0, 0, 0]);
+    // several cells go as far as they can
+    let mut tried_blocks = damaged_by(block(3, 1, 9, 9), [4, 9, 0, 10, 8, most]);
+    assert_eq!(tried_blocks.remove(1), (0, 0));
+    assert_eq!(tried_blocks.loads(), [0, 9, 0, 1]);
+    let mut tried_blocks = damaged_by(block(3, 1, 65535, 9), [most - 9, most - 10, 5, most, 8, 8]);
+    assert_eq!(tried_blocks.add(block(3, 2, 10, 9)), (0, 0));
+    assert_eq!(tried_blocks.loads(), [most, most, 5, most]);
+    assert_eq!(tried_blocks.remove(1), (0, 0));
+    assert_eq!(tried_blocks.loads(), [0, most, 5, 0]);
     // a link that the ring hasn't is never counted and never shown
     assert_eq!(tried.desk.table()[LOADS + 4..LOADS + 6], [8, most]);
     assert_eq!(panel::link_load(tried.desk.table(), 4), 0);

@@ -2,7 +2,7 @@
 #![cfg(target_os = "linux")]
 
 use panel_tests::area::Area;
-use panel_tests::cases::{each, large_table, Dues, UNDER_TEST};
+use panel_tests::cases::{each, large_table, Dues, ANSWERS, UNDER_TEST};
 use panel_tests::catalogue;
 use panel_tests::catalogues::{any_asked, any_catalogue, any_room};
 use panel_tests::desk::hold_shown;
@@ -104,11 +104,7 @@ fn guarded(random: &mut Random) -> Result<&'static str, String> {
     if random.once_in(8) {
         rows.resize(
             [513, 600, 100_000][random.within(0, 2)],
-            Row {
-                src: 0,
-                dst: 1,
-                due: 1,
-            },
+            Row::single(0, 1, 1),
         );
     }
     if count > 0 && random.once_in(8) {
@@ -146,7 +142,7 @@ fn guarded(random: &mut Random) -> Result<&'static str, String> {
     {
         return Err(format!("answers {answer:?}, and the model {expected:?}"));
     }
-    Ok(["accepted", "1", "2", "3", "4", "5", "6", "7", "8", "9"][answer.number as usize])
+    Ok(ANSWERS[answer.number as usize])
 }
 
 fn guarded_reading(random: &mut Random) -> Result<&'static str, String> {

@@ -1,13 +1,17 @@
 //! Tables that are turned away, and areas of every length around the needed one.
 
-use panel_tests::cases::{each, faulty};
+use panel_tests::cases::{each, faulty, ANSWERS};
 use panel_tests::compare::agree;
-use panel_tests::model::entries;
+use panel_tests::model::{cells, entries};
 use panel_tests::panel::{Answer, Row};
 use panel_tests::random::Random;
 
 fn row(src: u16, dst: u16, due: u16) -> Row {
-    Row { src, dst, due }
+    Row::single(src, dst, due)
+}
+
+fn block(src: u16, dst: u16, len: u16, due: u16) -> Row {
+    Row { src, dst, len, due }
 }
 
 /// Number, row and slot of the answer, which the model has agreed to.
@@ -24,7 +28,7 @@ fn answer(nodes: u16, rows: &[Row], plan_len: usize, arrivals_len: usize) -> (u1
 fn random_faults() {
     let tally = each("refused", faulty, 2_000_000, 4_000);
     if std::env::var("SEED").is_err() {
-        for number in ["1", "2", "3", "4", "5", "6", "7", "8", "9", "accepted"] {
+        for number in ANSWERS {
             assert!(
                 tally.get(number).is_some_and(|&k| k >= 50),
                 "too few {number}: {tally:?}"
@@ -47,6 +51,15 @@ fn each_number_alone() {
     assert_eq!(answer(4, &with(row(3, 3, 9)), 36, 3), (5, 2, 0));
     assert_eq!(answer(4, &with(row(3, 2, 0)), 36, 3), (6, 2, 0));
     assert_eq!(answer(4, &with(row(3, 2, 1025)), 36, 3), (6, 2, 0));
+    for len in [0, 65, 66, 256, 65535] {
+        assert_eq!(answer(4, &with(block(3, 2, len, 9)), 36, 3), (10, 2, 0));
+    }
+    assert_eq!(answer(4, &with(block(3, 2, 7, 9)), 36, 3), (0, 0, 0));
+    assert_eq!(answer(4, &with(block(3, 2, 64, 9)), 36, 3), (9, 2, 0));
+    assert_eq!(
+        answer(4, &[block(3, 2, 64, 1024); 17], 4096, 17),
+        (11, 0, 0)
+    );
     assert_eq!(answer(4, &good, 35, 3), (7, 0, 0));
     assert_eq!(answer(4, &good, 36, 2), (8, 0, 0));
     assert_eq!(answer(4, &with(row(3, 2, 2)), 36, 3), (9, 2, 0));
@@ -54,18 +67,69 @@ fn each_number_alone() {
 
 #[test]
 fn the_order_of_the_checks() {
-    let worst = row(65535, 65535, 65535);
+    let worst = block(65535, 65535, 65535, 65535);
     assert_eq!(answer(33, &[worst; 513], 0, 0), (1, 0, 0));
     assert_eq!(answer(32, &[worst; 513], 0, 0), (2, 0, 0));
     assert_eq!(answer(32, &[worst; 512], 0, 0), (3, 1, 0));
-    assert_eq!(answer(32, &[row(0, 65535, 65535)], 0, 0), (4, 1, 0));
-    assert_eq!(answer(32, &[row(0, 0, 65535)], 0, 0), (5, 1, 0));
+    assert_eq!(answer(32, &[block(0, 65535, 0, 65535)], 0, 0), (4, 1, 0));
+    assert_eq!(answer(32, &[block(0, 0, 0, 65535)], 0, 0), (5, 1, 0));
+    assert_eq!(answer(32, &[block(0, 31, 0, 65535)], 0, 0), (10, 1, 0));
+    assert_eq!(answer(32, &[block(0, 31, 65, 0)], 0, 0), (10, 1, 0));
     assert_eq!(answer(32, &[row(0, 31, 65535)], 0, 0), (6, 1, 0));
+    // 11 after all rows, the last one too, and before the areas
+    let mut many = vec![block(0, 31, 64, 1); 17];
+    assert_eq!(answer(32, &many, 0, 0), (11, 0, 0));
+    many[16].due = 0;
+    assert_eq!(answer(32, &many, 0, 0), (6, 17, 0));
+    many[16].len = 65;
+    assert_eq!(answer(32, &many, 0, 0), (10, 17, 0));
+    many.truncate(16);
+    assert_eq!(answer(32, &many, 0, 0), (7, 0, 0));
     assert_eq!(answer(32, &[row(0, 31, 1)], 31, 0), (7, 0, 0));
     assert_eq!(answer(32, &[row(0, 31, 1)], 32, 0), (8, 0, 0));
     assert_eq!(answer(32, &[row(0, 31, 1)], 32, 1), (9, 1, 0));
     // a lower row's 6 stands before a higher row's 3
     assert_eq!(answer(4, &[row(0, 1, 0), row(4, 1, 1)], 0, 0), (6, 1, 0));
+    assert_eq!(
+        answer(4, &[block(0, 1, 0, 1), row(4, 1, 1)], 0, 0),
+        (10, 1, 0)
+    );
+}
+
+#[test]
+fn every_number_of_cells() {
+    // as rows of 1 and of 64, and as 512 rows of 1 and more
+    for total in (1..=1100).chain([2_048, 32_767, 32_768]) {
+        let blocks = total / 64;
+        let mut rows = vec![block(0, 1, 64, 1024); blocks];
+        rows.resize(blocks + total % 64, row(0, 1, 1024));
+        let number = if rows.len() > 512 {
+            2
+        } else if total > 1024 {
+            11
+        } else {
+            0
+        };
+        assert_eq!(answer(2, &rows, 2048, rows.len()), (number, 0, 0));
+    }
+    for last in 1..=64 {
+        let mut rows = vec![block(0, 1, 2, 1024); 512];
+        (rows[0].len, rows[511].len) = (1, last);
+        let number = if cells(&rows) > 1024 { 11 } else { 0 };
+        assert_eq!(answer(2, &rows, 2048, 512), (number, 0, 0));
+    }
+}
+
+#[test]
+fn every_length() {
+    for len in (0..=300).chain([512, 1_024, 32_768, 65_472, 65_535]) {
+        let expected = match len {
+            1..=64 => (0, 0, 0),
+            _ => (10, 2, 0),
+        };
+        let rows = [row(0, 1, 90), block(1, 0, len, 90), row(0, 1, 90)];
+        assert_eq!(answer(3, &rows, 270, 3), expected);
+    }
 }
 
 #[test]
@@ -129,5 +193,19 @@ fn full_tables_to_the_last_slot() {
             .zip(&planned.arrivals)
             .all(|(at, &arrival)| at == arrival));
         assert_eq!(answer(nodes, &all(last - 1), 32 * 1024, 512), (9, 512, 511));
+    }
+}
+
+#[test]
+fn as_many_cells_as_there_may_be() {
+    // one link carries 1,024 cells in 1,024 slots
+    for (count, len) in [(16, 64), (32, 32), (512, 2)] {
+        let rows = vec![block(0, 1, len, 1024); count];
+        let planned = agree(&mut Random::new(27), 2, &rows, 2048, count).unwrap();
+        assert_eq!((planned.answer.number, planned.answer.last), (0, 1024));
+        assert_eq!(planned.answer.sends, 1024);
+        // and no more: to node 2 of 3 the last cell comes a slot later
+        let rows = vec![block(0, 2, len, 1024); count];
+        assert_eq!(answer(3, &rows, 3072, count).0, 9);
     }
 }

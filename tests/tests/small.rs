@@ -1,6 +1,6 @@
 //! Small tables: refused as late exactly when an exhaustive search finds no schedule, and else with a plan that is checked.
 
-use panel_tests::cases::{each, judged, small};
+use panel_tests::cases::{each, judged, modelled, small};
 use panel_tests::panel::Row;
 use panel_tests::random::Random;
 
@@ -15,12 +15,26 @@ fn random_small_tables() {
     }
 }
 
-/// Every table of some rows for a ring, with due slots up to a largest one.
-fn all(nodes: u16, count: u32, latest: u16) {
+/// The model, the search and the checker against each other, with no call of the panel's functions.
+#[test]
+fn the_models_agree() {
+    let tally = each("small", modelled, 10_000_000, 100_000);
+    if std::env::var("SEED").is_err() {
+        assert!(
+            tally["accepted"] >= 25_000 && tally["late"] >= 15_000,
+            "an unfair share: {tally:?}"
+        );
+    }
+}
+
+/// Every table of some rows for a ring, with lengths and due slots up to a largest one.
+fn all(nodes: u16, count: u32, longest: u16, latest: u16) {
     let mut kinds = Vec::new();
     for src in 0..nodes {
         for dst in (0..nodes).filter(|&dst| dst != src) {
-            kinds.extend((1..=latest).map(|due| Row { src, dst, due }));
+            for len in 1..=longest {
+                kinds.extend((1..=latest).map(|due| Row { src, dst, len, due }));
+            }
         }
     }
     let mut random = Random::new(0);
@@ -37,21 +51,29 @@ fn all(nodes: u16, count: u32, latest: u16) {
         late += usize::from(judged(&mut random, nodes, &rows).unwrap() != "accepted");
     }
     println!(
-        "all tables of {count} rows for {nodes} nodes, due up to {latest}: {tables}, {late} late"
+        "all tables of {count} rows for {nodes} nodes, lengths up to {longest}, due up to {latest}: {tables}, {late} late"
     );
 }
 
 #[test]
 fn every_table_of_four_rows_for_two_nodes() {
-    all(2, 4, 5);
+    all(2, 4, 1, 5);
 }
 
 #[test]
 fn every_table_of_three_rows_for_three_nodes() {
-    all(3, 3, 4);
+    all(3, 3, 1, 4);
 }
 
 #[test]
 fn every_table_of_two_rows_for_five_nodes() {
-    all(5, 2, 6);
+    all(5, 2, 1, 6);
+}
+
+#[test]
+fn every_table_of_blocks() {
+    all(2, 3, 2, 6);
+    all(3, 2, 3, 6);
+    all(4, 2, 2, 6);
+    all(5, 1, 7, 12);
 }

@@ -7,7 +7,7 @@ use panel_tests::text::text;
 use panel_tests::texts::{agree_read, agree_write, any_rows, harmed, there_and_back};
 
 fn row(src: u16, dst: u16, due: u16) -> Row {
-    Row { src, dst, due }
+    Row::single(src, dst, due)
 }
 
 /// Number, line, nodes and rows of the answer, which the model has agreed to.
@@ -26,10 +26,17 @@ fn written(nodes: u16, rows: &[Row], lent: usize) -> (u16, usize) {
     (a.number, a.length)
 }
 
-const CASE_B: &str = "nodes=4\nrows=2\nsrc=0\ndst=1\ndue=2\nsrc=0\ndst=3\ndue=3\n";
+const CASE_B: &str = "nodes=4\nrows=2\nsrc=0\ndst=1\nlen=1\ndue=2\nsrc=0\ndst=3\nlen=1\ndue=3\n";
+
+const LARGEST: Row = Row {
+    src: 65535,
+    dst: 65535,
+    len: 65535,
+    due: 65535,
+};
 
 fn longest() -> Vec<u8> {
-    text(65535, &[row(65535, 65535, 65535); 512])
+    text(65535, &[LARGEST; 512])
 }
 
 #[test]
@@ -72,13 +79,13 @@ fn every_prefix_and_every_byte() {
         CASE_B.as_bytes().to_vec(),
         text(
             65535,
-            &[row(65535, 0, 10), row(9, 99, 999), row(9999, 1, 0)],
+            &[LARGEST, row(65535, 0, 10), row(9, 99, 999), row(9999, 1, 0)],
         ),
         text(10, &several),
     ];
     let (mut prefixes, mut replaced, mut inserted, mut dropped, mut accepted) = (0, 0, 0, 0, 0);
     for right in &texts {
-        let lent = right.iter().filter(|&&b| b == b'\n').count() / 3;
+        let lent = right.iter().filter(|&&b| b == b'\n').count() / 4;
         let hold = |bytes: &[u8]| usize::from(answer(bytes, lent).0 == 0);
         for end in 0..right.len() {
             // a line that is cut off, or the first that is missing
@@ -111,7 +118,7 @@ fn every_prefix_and_every_byte() {
     println!("text: {prefixes} prefixes, {replaced} with a byte replaced, {inserted} inserted, {dropped} dropped: {accepted} accepted");
 }
 
-/// A text in which line `line` of five (nodes, rows and one row's three) has this behind its equals sign, and its number.
+/// A text in which line `line` of six (nodes, rows and one row's four) has this behind its equals sign, and its number.
 fn with(line: usize, value: &[u8]) -> (Vec<u8>, u16) {
     let mut bytes = Vec::new();
     for (i, (key, own)) in [
@@ -119,6 +126,7 @@ fn with(line: usize, value: &[u8]) -> (Vec<u8>, u16) {
         ("rows", "1"),
         ("src", "0"),
         ("dst", "1"),
+        ("len", "1"),
         ("due", "2"),
     ]
     .iter()
@@ -137,7 +145,7 @@ fn every_number() {
     let mut count = 0;
     for v in 0..=70_000u32 {
         let numeral = v.to_string();
-        for line in [0, 2, 3, 4] {
+        for line in [0, 2, 3, 4, 5] {
             let (bytes, number) = with(line, numeral.as_bytes());
             let a = answer(&bytes, 1);
             assert_eq!((a.0, a.1), if v < 65_536 { (0, 0) } else { (20, number) });
@@ -204,7 +212,7 @@ fn wrong_numerals() {
         b":",
         b"/",
     ];
-    for line in 0..5 {
+    for line in 0..6 {
         for value in wrong {
             let (bytes, number) = with(line, value);
             assert_eq!(answer(&bytes, 1), (20, number, 0, 0));
@@ -215,7 +223,7 @@ fn wrong_numerals() {
         let (bytes, number) = with(line, b"4\n4");
         assert_eq!(answer(&bytes, 20), (20, number + 1, 0, 0));
     }
-    println!("text: {} wrong numerals in each of five lines", wrong.len());
+    println!("text: {} wrong numerals in each of six lines", wrong.len());
 }
 
 #[test]
@@ -234,7 +242,7 @@ fn wrong_lines() {
     assert_eq!(answer("\n", 2), (20, 1, 0, 0));
     assert_eq!(answer("nodes=4\n", 2), (20, 2, 0, 0));
     assert_eq!(answer("rows=2\nnodes=4\n", 2), (20, 1, 0, 0));
-    for number in 1..=8 {
+    for number in 1..=10 {
         let mut lines: Vec<&str> = CASE_B.split_inclusive('\n').collect();
         let line = lines.remove(number - 1);
         assert_eq!(answer(lines.concat(), 2), (20, number as u16, 0, 0));
@@ -254,10 +262,10 @@ fn wrong_lines() {
         " ",
         "x",
         "src=0\n",
-        "src=0\ndst=1\ndue=2\n",
+        "src=0\ndst=1\nlen=1\ndue=2\n",
         CASE_B,
     ] {
-        assert_eq!(answer(format!("{CASE_B}{after}"), 9), (20, 9, 0, 0));
+        assert_eq!(answer(format!("{CASE_B}{after}"), 9), (20, 11, 0, 0));
         assert_eq!(
             answer(format!("nodes=4\nrows=0\n{after}"), 9),
             (20, 3, 0, 0)
@@ -265,9 +273,60 @@ fn wrong_lines() {
     }
 }
 
+/// A text of one row with this in the place of its length's line.
+fn with_length(line: &str) -> String {
+    format!("nodes=4\nrows=1\nsrc=0\ndst=1\n{line}due=2\n")
+}
+
+#[test]
+fn lengths() {
+    // the reader does not judge them
+    for len in [0, 1, 2, 64, 65, 255, 256, 1_024, 32_768, 65_535] {
+        let text = with_length(&format!("len={len}\n"));
+        let taken = agree_read(&mut Random::new(28), text.as_bytes(), 1).unwrap();
+        assert_eq!((taken.answer.number, taken.rows[0].len), (0, len));
+        let put = agree_write(&mut Random::new(28), 4, &taken.rows, text.len()).unwrap();
+        assert_eq!(put.area, text.as_bytes());
+    }
+    // missing, doubled, out of its place, or no number
+    assert_eq!(answer(with_length(""), 1), (20, 5, 0, 0));
+    assert_eq!(answer(with_length("len=1\nlen=1\n"), 1), (20, 6, 0, 0));
+    assert_eq!(answer(with_length("due=1\n"), 1), (20, 5, 0, 0));
+    assert_eq!(answer(with_length("due=2\nlen=1\n"), 1), (20, 5, 0, 0));
+    for wrong in [
+        "len=\n",
+        "len=01\n",
+        "len=65536\n",
+        "LEN=1\n",
+        "length=1\n",
+        "len=1\r\n",
+        "\n",
+    ] {
+        assert_eq!(answer(with_length(wrong), 1), (20, 5, 0, 0));
+    }
+    let early = "nodes=4\nrows=1\nsrc=0\nlen=1\ndst=1\ndue=2\n";
+    assert_eq!(answer(early, 1), (20, 4, 0, 0));
+    let late = "nodes=4\nrows=1\nsrc=0\ndst=1\ndue=2\nlen=1\n";
+    assert_eq!(answer(late, 1), (20, 5, 0, 0));
+}
+
+#[test]
+fn old_texts() {
+    let row = "src=0\ndst=1\ndue=2\n";
+    for count in [1, 2, 3, 511, 512] {
+        let old = format!("nodes=4\nrows={count}\n{}", row.repeat(count));
+        assert_eq!(answer(&old, 512), (20, 5, 0, 0));
+        assert_eq!(answer(&old, count - 1), (21, 0, 0, 0));
+    }
+    let old = format!("nodes=4\nrows=513\n{}", row.repeat(513));
+    assert_eq!(answer(old, 600), (2, 0, 0, 0));
+    // with no row it is a new one
+    assert_eq!(answer("nodes=4\nrows=0\n", 0), (0, 0, 4, 0));
+}
+
 #[test]
 fn directly_after_line_2() {
-    let many = "src=0\ndst=1\ndue=2\n".repeat(520);
+    let many = "src=0\ndst=1\nlen=1\ndue=2\n".repeat(520);
     for after in ["", "x", "\n", "src=x\n", "src=0\n", &many] {
         let head = |rows: &str| format!("nodes=33\nrows={rows}{after}");
         for lent in [0, 1, 511, 512, 513, 600] {
@@ -287,7 +346,10 @@ fn directly_after_line_2() {
     // the reader does not judge the number of nodes or the rows' values
     assert_eq!(answer("nodes=0\nrows=0\n", 0), (0, 0, 0, 0));
     assert_eq!(
-        answer("nodes=65535\nrows=1\nsrc=65535\ndst=65535\ndue=0\n", 1),
+        answer(
+            "nodes=65535\nrows=1\nsrc=65535\ndst=65535\nlen=0\ndue=0\n",
+            1
+        ),
         (0, 0, 65535, 1)
     );
 }
@@ -311,7 +373,7 @@ fn lists_of_every_length() {
             let last = if short {
                 right
             } else {
-                (20, 3 + 3 * count as u16, 0, 0)
+                (20, 3 + 4 * count as u16, 0, 0)
             };
             assert_eq!(answer(&wrong, lent), last);
             calls += 2;
@@ -323,14 +385,14 @@ fn lists_of_every_length() {
 #[test]
 fn the_longest_text() {
     let bytes = longest();
-    assert_eq!(bytes.len(), 15_381);
+    assert_eq!(bytes.len(), 20_501);
     assert_eq!(answer(&bytes, 512), (0, 0, 65535, 512));
     assert_eq!(answer(&bytes, 511), (21, 0, 0, 0));
-    let full = [row(65535, 65535, 65535); 512];
-    assert_eq!(written(65535, &full, 15_381), (0, 15_381));
-    assert_eq!(written(65535, &full, 15_380), (22, 0));
-    assert_eq!(written(65535, &full, 20_000), (0, 15_381));
-    assert_eq!(answer([&bytes[..], b"\n"].concat(), 512), (20, 1539, 0, 0));
+    let full = [LARGEST; 512];
+    assert_eq!(written(65535, &full, 20_501), (0, 20_501));
+    assert_eq!(written(65535, &full, 20_500), (22, 0));
+    assert_eq!(written(65535, &full, 25_000), (0, 20_501));
+    assert_eq!(answer([&bytes[..], b"\n"].concat(), 512), (20, 2051, 0, 0));
     let mut random = Random::new(17);
     let mut calls = 0;
     for end in 0..bytes.len() {
@@ -375,7 +437,7 @@ fn areas_of_every_length() {
 fn too_many_rows_to_write() {
     for count in [513, 514, 1_024, 65_535, 65_536, 65_537, 66_048, 100_000] {
         let rows = vec![row(1, 2, 3); count];
-        for lent in [0, 15_381, 30 * count] {
+        for lent in [0, 20_501, 40 * count] {
             assert_eq!(written(4, &rows, lent), (2, 0));
         }
     }

@@ -1,69 +1,7 @@
 //! The worked tables: document 01's sweep table, and the examples of the paper (sections 2 and 3) that have a table here.
 
-use panel_tests::compare::{agree, Planned};
 use panel_tests::panel::{Answer, Row};
-use panel_tests::random::Random;
-
-/// Rows as source>destination/due, parted by commas.
-fn rows(text: &str) -> Vec<Row> {
-    let number = |s: &str| s.trim().parse().unwrap();
-    let one = |s: &str| {
-        let (src, rest) = s.split_once('>').unwrap();
-        let (dst, due) = rest.split_once('/').unwrap();
-        Row {
-            src: number(src),
-            dst: number(dst),
-            due: number(due),
-        }
-    };
-    text.split(',')
-        .filter(|s| !s.trim().is_empty())
-        .map(one)
-        .collect()
-}
-
-/// The outcome with areas that are ample and cut to what is used.
-fn outcome(nodes: u16, table: &str) -> Planned {
-    let rows = rows(table);
-    let needed = nodes as usize * rows.iter().map(|r| r.due as usize).max().unwrap_or(0);
-    let mut planned = agree(
-        &mut Random::new(9),
-        nodes,
-        &rows,
-        needed + 40,
-        rows.len() + 40,
-    )
-    .unwrap();
-    planned.plan.truncate(needed);
-    planned.arrivals.truncate(rows.len());
-    planned
-}
-
-fn accepted(nodes: u16, table: &str, plan: &[u16], arrivals: &[u16]) -> Answer {
-    let planned = outcome(nodes, table);
-    assert_eq!(
-        (
-            planned.answer.number,
-            planned.answer.row,
-            planned.answer.slot
-        ),
-        (0, 0, 0)
-    );
-    assert_eq!((&planned.plan[..], &planned.arrivals[..]), (plan, arrivals));
-    planned.answer
-}
-
-fn refused(nodes: u16, table: &str, number: u16, row: u16, slot: u16) {
-    assert_eq!(
-        outcome(nodes, table).answer,
-        Answer {
-            number,
-            row,
-            slot,
-            ..Answer::default()
-        }
-    );
-}
+use panel_tests::worked::{accepted, outcome, refused};
 
 #[test]
 fn the_sweep_table() {
@@ -177,6 +115,6 @@ fn the_paper_s_equation_1() {
 
 #[test]
 fn the_declared_layout() {
-    assert_eq!((size_of::<Row>(), align_of::<Row>()), (6, 2));
+    assert_eq!((size_of::<Row>(), align_of::<Row>()), (8, 2));
     assert_eq!((size_of::<Answer>(), align_of::<Answer>()), (32, 8));
 }

@@ -6,16 +6,16 @@
 #include <string.h>
 #include <strings.h>
 
-#define LINES 24
-#define ANSWERS 18
+#define LINES 26
+#define ANSWERS 20
 #define FIELDS 6
 
 static const char *const keys[LINES] = {
-    "r0=",  "r1=",  "r2=",  "r3=",  "r4=",  "r5=",  "r6=", "r7=", "r8=", "r9=", "r12=", "r20=",
-    "r21=", "r22=", "r30=", "r31=", "r32=", "r33=", "f1=", "f2=", "f3=", "f4=", "f5=",  "f6=",
+    "r0=",  "r1=",  "r2=",  "r3=",  "r4=",  "r5=",  "r6=",  "r7=", "r8=", "r9=", "r10=", "r11=", "r12=",
+    "r20=", "r21=", "r22=", "r30=", "r31=", "r32=", "r33=", "f1=", "f2=", "f3=", "f4=",  "f5=",  "f6=",
 };
 
-static const uint16_t numbers[ANSWERS] = {0, 1, 2, 3, 4, 5, 6, 7, 8, 9, 12, 20, 21, 22, 30, 31, 32, 33};
+static const uint16_t numbers[ANSWERS] = {0, 1, 2, 3, 4, 5, 6, 7, 8, 9, 10, 11, 12, 20, 21, 22, 30, 31, 32, 33};
 
 /* The string of a line. */
 struct string {
@@ -197,7 +197,7 @@ static struct judged judge_lines(const uint8_t *text, size_t len, unsigned lines
     if (WRONG == 170 && at + 1 == len && text[at] == '\n') /* 170: an empty line at the end */
         at = len;
     if (at < len && WRONG != 171)                                             /* 171: bytes behind the last line */
-        return refused(30, WRONG == 172 ? 24 : WRONG == 173 ? 0 : LINES + 1); /* 172: line 24; 173: no line */
+        return refused(30, WRONG == 172 ? LINES : WRONG == 173 ? 0 : LINES + 1); /* 172: the last line; 173: no line */
     if (line != 0 && WRONG != 174) /* 174: equal labels */
         return refused(32, line);
     for (unsigned i = 0; i < LINES; i++)

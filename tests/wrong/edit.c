@@ -1,5 +1,5 @@
-/* Opening, editing and showing a table in C, with the fault that WRONG names, from 57 on, and with none else. The tests must
-   turn away every fault. */
+/* Opening, editing and showing a table in C, with the fault that WRONG names, from 57 on and from 244 on, and with none
+   else. The tests must turn away every fault. */
 #include "garboardle.h"
 
 #include <string.h>
@@ -27,6 +27,10 @@ static unsigned row_fault(unsigned n, struct garboardle_row r)
         return 4;
     if (r.src == r.dst && WRONG != 62) /* 62: never 5 */
         return 5;
+    if (WRONG == 244 && (r.due == 0 || r.due > 1024)) /* 244: 6 before 10 */
+        return 6;
+    if (WRONG != 245 && (r.len == 0 || r.len > (WRONG == 246 ? 65 : 64))) /* 245: never 10; 246: 65 cells */
+        return 10;
     return r.due == 0 || r.due > (WRONG == 63 ? 1023 : 1024) ? 6 : 0; /* 63: due slots up to 1,023 */
 }
 
@@ -64,12 +68,18 @@ static int crosses(struct garboardle_row r, unsigned p)
     return r.src < r.dst ? src <= p && p < dst : src <= p || p < dst;
 }
 
-static uint16_t stepped(uint16_t load, int up)
+static uint16_t stepped(uint16_t load, unsigned cells, int up)
 {
     unsigned most = WRONG == 72 ? 255 : 65535; /* 72: counts of a byte */
+    if (WRONG == 247) /* 247: counts rows */
+        cells = 1;
+    if (up && load + cells > most && WRONG != 73) /* 73: past the last number to 0 */
+        return WRONG == 248 ? load : (uint16_t)(load > most ? load : most); /* 248: stays where it would pass the last number */
     if (up)
-        return load >= most && WRONG != 73 ? load : (uint16_t)(load + 1); /* 73: past the last number to 0 */
-    return load == 0 && WRONG != 74 ? load : (uint16_t)(load - 1);        /* 74: past 0 to the last number */
+        return (uint16_t)(load + cells);
+    if (load < cells && WRONG != 74) /* 74: past 0 to the last number */
+        return WRONG == 249 ? load : 0; /* 249: stays where it would pass 0 */
+    return (uint16_t)(load - cells);
 }
 
 /* Counts a row in or out. */
@@ -78,7 +88,7 @@ static void count(struct garboardle_table *t, struct garboardle_row r, int up)
     unsigned links = WRONG == 75 ? 32 : t->nodes; /* 75: links that the ring hasn't, too */
     for (unsigned p = 0; p < links; p++)
         if (crosses(r, p))
-            t->load[p] = stepped(t->load[p], up);
+            t->load[p] = stepped(t->load[p], r.len, up);
 }
 
 #if WRONG == 76 /* every load anew, whatever the area held on other links */
@@ -123,6 +133,13 @@ struct garboardle_edit_answer garboardle_add(struct garboardle_table *t, struct 
         count(t, r, 1);
     if (wrong != 0)
         return answer(wrong, WRONG == 85 ? rows : rows + 1); /* 85: named under the last number */
+    if (WRONG == 251) { /* 251: 11 in editing */
+        size_t cells = r.len;
+        for (unsigned i = 0; i < rows; i++)
+            cells += t->row[i].len;
+        if (cells > 1024)
+            return answer(11, 0);
+    }
     if (WRONG != 86 && WRONG != 126) /* 86: not counted */
         count(t, r, 1);
     unsigned at = rows;
@@ -160,6 +177,8 @@ struct garboardle_edit_answer garboardle_change(struct garboardle_table *t, uint
         count(t, r, 1);
     if (WRONG == 96) /* 96: keeps the old due slot */
         r.due = old->due;
+    if (WRONG == 252) /* 252: keeps the old length */
+        r.len = old->len;
     *old = r;
     recount(t);
     return answer(0, 0);
@@ -203,7 +222,7 @@ uint16_t garboardle_row_count(const struct garboardle_table *t)
 
 struct garboardle_row_answer garboardle_row_of(const struct garboardle_table *t, uint16_t number)
 {
-    struct garboardle_row_answer a = {0, 0, 0, 0, 0, 0};
+    struct garboardle_row_answer a = {0, 0, 0, 0, 0, 0, 0};
     unsigned missing = asked_fault(t, number);
     if (WRONG == 107 && missing == 2 && 1 <= number && number <= 512) /* 107: shows rows of an area that has too many */
         missing = 0;
@@ -214,6 +233,7 @@ struct garboardle_row_answer garboardle_row_of(const struct garboardle_table *t,
     struct garboardle_row r = t->row[WRONG == 109 && number < 512 ? number : number - 1]; /* 109: rows numbered from 0 */
     a.src = r.src;
     a.dst = WRONG == 110 ? r.due : r.dst; /* 110: due slot as destination */
+    a.len = WRONG == 250 ? 1 : r.len; /* 250: every length as 1 */
     a.due = WRONG == 110 ? r.dst : r.due;
     if (WRONG == 111 && missing == 0) /* 111: names the row that it shows */
         a.row = number;

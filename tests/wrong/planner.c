@@ -1,4 +1,5 @@
-/* A planner in C with the fault that WRONG names, and with none where WRONG is 0. The tests must turn away every fault. */
+/* A planner in C with the fault that WRONG names, up to 28 and from 219 on, and with none else. The tests must turn away
+   every fault. */
 #include "garboardle.h"
 
 static struct garboardle_answer refused(unsigned number, unsigned row, unsigned slot)
@@ -19,6 +20,12 @@ static unsigned fault(unsigned n, struct garboardle_row r)
 #endif
     if (r.src == r.dst)
         return 5;
+#if WRONG == 219 /* 6 before 10 */
+    if (r.due == 0 || r.due > 1024)
+        return 6;
+#endif
+    if ((r.len == 0 && WRONG != 220) || r.len > (WRONG == 221 ? 65 : WRONG == 222 ? 63 : 64)) /* 220: no cells; 221: 65; 222: 63 */
+        return 10;
 #if WRONG == 2 /* due slots up to 1,023 */
     if (r.due == 0 || r.due > 1023)
         return 6;
@@ -28,29 +35,75 @@ static unsigned fault(unsigned n, struct garboardle_row r)
     return 0;
 }
 
-/* Whether row i goes before row j, both at node p at instant t. */
-static int before(unsigned n, const struct garboardle_row *rows, const int *left, unsigned p, int i, int j)
+/* One cell: the index of its row, its due slot, its destination, its links to go, and where it stands. */
+struct cell {
+    int row;
+    int due;
+    int dst;
+    int left;
+    unsigned at;
+    int last; /* whether it is its row's last */
+};
+
+/* Lays a row out as cells, and says how many. */
+static int lay(struct cell *cells, int i, struct garboardle_row r, unsigned n)
 {
-    int a = rows[i].due - left[i], b = rows[j].due - left[j];
-    (void)n;
-    (void)p;
+    int left = (int)((r.dst + n - r.src) % n);
+    for (int k = 0; k < r.len; k++) {
+        int behind = r.len - 1 - k;
+#if WRONG == 223 /* all cells due with the row */
+        behind = 0;
+#elif WRONG == 224 /* the first cell due with the row, later ones after it */
+        behind = -k;
+#elif WRONG == 225 /* every other slot */
+        behind *= 2;
+#elif WRONG == 226 /* cells in the other order */
+        behind = k;
+#endif
+        struct cell c = {i, r.due - behind, r.dst, left, r.src, k == r.len - 1};
+        cells[k] = c;
+    }
+    return r.len;
+}
+
+/* Whether cell i goes before cell j, both at one node. */
+static int before(const struct cell *cells, int i, int j)
+{
+    int a = cells[i].due - cells[i].left, b = cells[j].due - cells[j].left;
 #if WRONG == 3 /* earliest due slot first */
-    a = rows[i].due, b = rows[j].due;
+    a = cells[i].due, b = cells[j].due;
 #elif WRONG == 4 /* no turn past node 0 */
-    a = rows[i].due - rows[i].dst, b = rows[j].due - rows[j].dst;
+    a = cells[i].due - cells[i].dst, b = cells[j].due - cells[j].dst;
 #elif WRONG == 5 /* the higher row on a tie */
     return a <= b;
 #elif WRONG == 6 /* farthest destination first */
-    a = -left[i], b = -left[j];
+    a = -cells[i].left, b = -cells[j].left;
+#elif WRONG == 227 /* the lower row first, whatever its slack */
+    if (cells[i].row != cells[j].row)
+        return cells[i].row < cells[j].row;
 #endif
     return a < b;
+}
+
+/* Moves a cell one node on. */
+static void go_on(struct cell *c, unsigned n)
+{
+    c->left--;
+    c->at = (c->at + 1) % n;
+}
+
+/* Whether a cell can't be in time any more. */
+static int is_late(struct cell c, unsigned t)
+{
+    return c.left > 0 && c.due - (int)t - (WRONG == 15 ? 0 : c.left) < 0; /* 15: late when the due slot is past */
 }
 
 struct garboardle_answer garboardle_plan(uint16_t nodes, const struct garboardle_row *rows, size_t rows_len,
                                          uint16_t *plan, size_t plan_len, uint16_t *arrivals, size_t arrivals_len)
 {
     unsigned n = nodes;
-    int left[512], chosen[32];
+    struct cell cells[1024];
+    int chosen[32];
     if (n < 2 || n > (WRONG == 7 ? 31 : 32)) /* 7: at most 31 nodes */
         return refused(1, 0, 0);
     if (rows_len > (WRONG == 8 ? 511 : 512)) /* 8: at most 511 rows */
@@ -64,13 +117,28 @@ struct garboardle_answer garboardle_plan(uint16_t nodes, const struct garboardle
         return refused(9, 0, 0);
 #endif
 
-    size_t latest = 0, under_way = rows_len;
+    size_t latest = 0, total = 0;
     uint32_t sends = 0, sum = 0;
     for (size_t i = 0; i < rows_len; i++) {
-        left[i] = (int)((rows[i].dst + n - rows[i].src) % n);
-        sends += (uint32_t)left[i];
+        uint32_t links = (rows[i].dst + n - rows[i].src) % n;
+        sends += WRONG == 228 ? links : links * rows[i].len; /* 228: sends of rows */
         latest = rows[i].due > latest ? rows[i].due : latest;
+        total += rows[i].len;
+#if WRONG == 229 /* 11 names the row that is too much */
+        if (total > 1024)
+            return refused(11, (unsigned)i + 1, 0);
+#endif
     }
+#if WRONG == 230 /* 7 before 11 */
+    if (plan_len < n * latest)
+        return refused(7, 0, 0);
+#endif
+    if (total > (WRONG == 231 ? 1023 : 1024)) /* 231: at most 1,023 cells */
+        return refused(WRONG == 232 ? 2 : 11, 0, 0); /* 232: 2 for cells too */
+    int count = 0, under_way = 0;
+    for (size_t i = 0; i < rows_len; i++)
+        count += lay(cells + count, (int)i, rows[i], n);
+    under_way = count;
     size_t needed = n * latest, filled = needed;
 #if WRONG == 10 /* 8 before 7 */
     if (arrivals_len < rows_len)
@@ -95,14 +163,14 @@ struct garboardle_answer garboardle_plan(uint16_t nodes, const struct garboardle
     unsigned t = 0, last = 0;
     for (; under_way > 0; t++) {
         int late = -1;
-        for (int i = (int)rows_len - 1; i >= 0; i--)
-            if (left[i] > 0 && (int)rows[i].due - (int)t - (WRONG == 15 ? 0 : left[i]) < 0) /* 15: late when the due slot is past */
-                late = i;
+        for (int i = count - 1; i >= 0; i--)
+            if (is_late(cells[i], t) && (WRONG != 233 || cells[i].last)) /* 233: only a row's last cell is late */
+                late = WRONG == 234 ? i : cells[i].row;                  /* 234: the late cell, not its row */
 #if WRONG == 16 /* the late row by the order of nodes */
         for (unsigned p = n; late >= 0 && p-- > 0;)
-            for (int i = (int)rows_len - 1; i >= 0; i--)
-                if (left[i] > 0 && (rows[i].dst + n - (unsigned)left[i]) % n == p && (int)rows[i].due - (int)t - left[i] < 0)
-                    late = i;
+            for (int i = count - 1; i >= 0; i--)
+                if (cells[i].at == p && is_late(cells[i], t))
+                    late = cells[i].row;
 #elif WRONG == 17 /* refuses everything */
         late = 0;
 #endif
@@ -115,27 +183,31 @@ struct garboardle_answer garboardle_plan(uint16_t nodes, const struct garboardle
         }
         for (unsigned p = 0; p < n; p++) {
             chosen[p] = -1;
-            for (int i = 0; i < (int)rows_len; i++)
-                if (left[i] > 0 && (rows[i].dst + n - (unsigned)left[i]) % n == p && (chosen[p] < 0 || before(n, rows, left, p, i, chosen[p])))
+            for (int i = 0; i < count; i++)
+                if (cells[i].at == p && cells[i].left > 0 && (chosen[p] < 0 || before(cells, i, chosen[p])))
                     chosen[p] = i;
 #if WRONG == 21 /* idles while there is time */
-            if (chosen[p] >= 0 && p == 1 && t == 0 && rows[chosen[p]].due > left[chosen[p]])
+            if (chosen[p] >= 0 && p == 1 && t == 0 && cells[chosen[p]].due > cells[chosen[p]].left)
                 chosen[p] = -1;
 #elif WRONG == 22 /* two links in one slot: a node sees what the node before it has just sent */
             if (chosen[p] >= 0)
-                left[chosen[p]]--;
+                go_on(&cells[chosen[p]], n);
 #endif
         }
         for (unsigned p = 0; p < n; p++) {
             int i = chosen[p];
             if (i < 0)
                 continue;
-            plan[t * n + p] = (uint16_t)(i + 1);
-            left[i] -= WRONG != 22;
-            if (left[i] == 0) {
+            struct cell *c = &cells[i];
+            plan[t * n + p] = (uint16_t)((WRONG == 235 ? i : c->row) + 1); /* 235: the cell, not its row */
+            if (WRONG != 22)
+                go_on(c, n);
+            if (c->left == 0) {
+                int first = c == cells || c[-1].row != c->row;
                 last = t + 1;
-                arrivals[i] = (uint16_t)last;
-                sum += last;
+                if (WRONG == 236 ? first : c->last) /* 236: the first cell's arrival */
+                    arrivals[c->row] = (uint16_t)last;
+                sum += c->last || WRONG == 237 ? last : 0; /* 237: the sum over cells */
                 under_way--;
             }
         }
@@ -144,7 +216,8 @@ struct garboardle_answer garboardle_plan(uint16_t nodes, const struct garboardle
     }
     if (rows_len == 0)
         return refused(0, 0, 0);
-    struct garboardle_answer a = {0, 0, 0, (uint16_t)last, sends, sum, (double)sum / (double)rows_len, (double)sends / (double)(n * last)};
+    /* 238: the mean over cells */
+    struct garboardle_answer a = {0, 0, 0, (uint16_t)last, sends, sum, (double)sum / (double)(WRONG == 238 ? total : rows_len), (double)sends / (double)(n * last)};
 #if WRONG == 23 /* rounded twice */
     a.mean = (float)a.mean;
 #elif WRONG == 24 /* the share of all slots up to the largest due one */

@@ -1,4 +1,5 @@
-/* A reader and a writer in C with the fault that WRONG names, from 29 on, and with none else. The tests must turn away every fault. */
+/* A reader and a writer in C with the fault that WRONG names, from 29 on and from 239 on, and with none else. The tests must turn
+   away every fault. */
 #include "garboardle.h"
 
 #include <stdio.h>
@@ -82,20 +83,32 @@ struct garboardle_read_answer garboardle_read(const uint8_t *text, size_t text_l
     if (rows_len < (size_t)count + (WRONG == 43)) /* 43: asks for one record more */
         return not_read(21, 0);
     for (long i = 0; i < count; i++) {
-        const char *keys[] = {"src=", "dst=", "due="};
-        long v[3];
-        for (int k = 0; k < 3; k++) {
+        const char *keys[] = {"src=", "dst=", "len=", "due="};
+        long v[4];
+        for (int k = 0; k < 4; k++) {
+            size_t before = at;
             v[k] = line(text, text_len, &at, keys[k]);
+            if (WRONG == 239 && k == 2 && v[k] < 0) { /* 239: no length is 1 */
+                at = before;
+                v[k] = 1;
+            }
             if (v[k] < 0)
-                return not_read(20, (unsigned)(3 + 3 * i + (WRONG == 44 ? 0 : k))); /* 44: names the row's first line */
+                return not_read(20, (unsigned)(3 + 4 * i + (WRONG == 44 ? 0 : k))); /* 44: names the row's first line */
+            if (WRONG == 240 && k == 2 && (v[k] < 1 || v[k] > 64)) /* 240: judges the length */
+                return not_read(20, (unsigned)(5 + 4 * i));
+            (void)before;
         }
-        struct garboardle_row r = {(uint16_t)v[0], (uint16_t)v[WRONG == 45 ? 2 : 1], (uint16_t)v[WRONG == 45 ? 1 : 2]}; /* 45: due as destination, also written so */
+        struct garboardle_row r = {(uint16_t)v[0], (uint16_t)v[WRONG == 45 ? 3 : 1], (uint16_t)v[2], (uint16_t)v[WRONG == 45 ? 1 : 3]}; /* 45: due as destination, also written so */
+        if (WRONG == 241) { /* 241: due as length, also written so */
+            r.len = (uint16_t)v[3];
+            r.due = (uint16_t)v[2];
+        }
         found[i] = r;
         if (WRONG == 46) /* 46: fills the list before the text is all read */
             rows[i] = r;
     }
     if (at < text_len && WRONG != 47) /* 47: takes bytes behind the last line */
-        return not_read(20, WRONG == 48 ? 0 : (unsigned)(3 + 3 * count)); /* 48: these have no line */
+        return not_read(20, WRONG == 48 ? 0 : (unsigned)(3 + (WRONG == 242 ? 3 : 4) * count)); /* 242: counts three lines for a row; 48: these have no line */
     memcpy(rows, found, (size_t)count * sizeof *rows);
     if (WRONG == 49 && (size_t)count < rows_len) /* 49: clears a record past the read ones */
         memset(rows + count, 0, sizeof *rows);
@@ -116,8 +129,11 @@ struct garboardle_write_answer garboardle_write(uint16_t nodes, const struct gar
     size_t count = rows_len > 512 ? 512 : rows_len;
     size_t length = (size_t)sprintf(text, "nodes=%u\nrows=%u\n", (unsigned)nodes, (unsigned)count);
     for (size_t i = 0; i < count; i++) {
-        unsigned dst = rows[i].dst, due = rows[i].due;
-        length += (size_t)sprintf(text + length, "src=%u\ndst=%u\ndue=%u\n", (unsigned)rows[i].src, WRONG == 45 ? due : dst, WRONG == 45 ? dst : due);
+        unsigned dst = rows[i].dst, len = rows[i].len, due = rows[i].due;
+        length += (size_t)sprintf(text + length, "src=%u\ndst=%u\n", (unsigned)rows[i].src, WRONG == 45 ? due : dst);
+        if (WRONG != 243 || len != 1) /* 243: no line for a length of 1 */
+            length += (size_t)sprintf(text + length, "len=%u\n", WRONG == 241 ? due : len);
+        length += (size_t)sprintf(text + length, "due=%u\n", WRONG == 45 ? dst : WRONG == 241 ? len : due);
     }
     if (WRONG == 52) /* 52: leaves out the last line feed */
         length--;

@@ -1,23 +1,23 @@
--- Lists of rows of which none is bad, and what that has to do with a well-formed table.
+-- Lists of rows of which none is bad, and what that has to do with judging a table.
 --     AllGood                          no row of the list is bad
 --     good-row                         what a row is that isn't bad
 --     good-append, good-split          two such lists in one, and the two parts of one
---     judged-good                      such a list is judged good
---     all-good                         a well-formed table has no bad row
+--     judged-good, good-judged         such a list is judged good, and one that is judged good is such a list
+--     cells-few                        it has at most 64 cells a row
 -- Assumes nothing.
 use mathlib.Core.Path.{_≡_, refl, sym, subst}
-use Prim.Native.Nat.{ℕ, suc}
+use Prim.Native.Nat.{ℕ, suc, _*_, _≤_}
 use native.Mathlib.Omega.{arith}
-use mathlib.Core.Bool.{Bool, true, false, cond, _||_}
+use mathlib.Core.Bool.{Bool, true, false, cond}
 use mathlib.Core.List.{List, [], _∷_, _++_}
 use borrow.Author.Tests.{eqb-true}
-use lib.Dec.{eqb, ltb}
+use lib.Dec.{eqb}
 use lib.ListN.{length, take, drop, take-append-drop}
+use Rattle.lists.specs.Lists.{total}
 use Rattle.table.specs.declared.Row.{Row}
 use Rattle.table.specs.declared.Verdict.the-variants.{Good, Refused}
-use Rattle.table.specs.Table.{most-rows, refuse, rowRefusal, judgeRows, judge, WellFormed}
+use Rattle.table.specs.Table.{most-length, refuse, rowRefusal, judgeRows, lengths, cellsIn}
 use Rattle.table.proofs.Judging.{GoodRow, good-rows, never-good}
-use Rattle.area.specs.Area.{most-links}
 
 -- No row of the list is bad.
 unfoldable pub AllGood : ℕ → List Row → Type 0
@@ -32,7 +32,7 @@ module _ (n : ℕ) where
   judged-good (r ∷ rows) above g = rw (g .0) (judged-good rows (suc above) (g .1))
 
   -- Rows that are judged good have no bad one among them.
-  good-judged : (rows : List Row) (above : ℕ) → judgeRows n rows above ≡ Good → AllGood n rows
+  pub good-judged : (rows : List Row) (above : ℕ) → judgeRows n rows above ≡ Good → AllGood n rows
   unfolding AllGood judgeRows
   good-judged [] above e = tt
   good-judged (r ∷ rows) above e = go (eqb (rowRefusal n r) 0) refl e (good-judged rows (suc above))
@@ -44,7 +44,7 @@ module _ (n : ℕ) where
       go true f e rest = (eqb-true (rowRefusal n r) 0 f, rest e)
       go false f e rest = absurd (never-good _ e)
 
-  -- A row that isn't bad lies on the ring, goes somewhere and has a due slot.
+  -- A row that isn't bad lies on the ring, goes somewhere, has 1 to 64 cells and a due slot.
   pub good-row : (r : Row) → rowRefusal n r ≡ 0 → GoodRow n r
   unfolding AllGood
   good-row r e = good-rows n (r ∷ []) 0 (judged-good (r ∷ []) 0 (e, tt)) 0 (omega arith)
@@ -65,14 +65,8 @@ module _ (n : ℕ) where
   pub good-split : (i : ℕ) (rows : List Row) → AllGood n rows → AllGood n (take i rows) × AllGood n (drop i rows)
   good-split i rows g = good-parts (take i rows) (drop i rows) (subst (AllGood n) (sym (take-append-drop i rows)) g)
 
-  -- A well-formed table has no bad row.
-  pub all-good : (rows : List Row) → WellFormed n rows → AllGood n rows
-  unfolding judge
-  all-good rows e = go (ltb n 2 || ltb most-links n) (ltb most-rows (length rows)) e
-    where
-      go : (a b : Bool)
-          → cond a (Refused (refuse 1 0 0)) (cond b (Refused (refuse 2 0 0)) (judgeRows n rows 0)) ≡ Good
-          → AllGood n rows
-      go true b e = absurd (never-good _ e)
-      go false true e = absurd (never-good _ e)
-      go false false e = good-judged rows 0 e
+  -- Rows of which none is bad have at most 64 cells each.
+  pub cells-few : (rows : List Row) → AllGood n rows → cellsIn rows ≤ most-length * length rows
+  unfolding AllGood cellsIn lengths total
+  cells-few [] g = omega arith
+  cells-few (r ∷ rows) g = omega (arith, good-row r (g .0) .len-most, cells-few rows (g .1))

@@ -16,7 +16,7 @@ use lib.Seq.{getD-take, getD-drop}
 use Rattle.lists.proofs.Build.{length-build, getD-build, is-build, build-ext}
 use Rattle.table.specs.Table.{most-rows}
 use Rattle.table.specs.Steps.{listed}
-use Rattle.area.specs.Area.{most-links, loads-begin, rowPlace, room, rowBy}
+use Rattle.area.specs.Area.{most-links, loads-begin, rowPlace, room}
 use Rattle.area.specs.Area.{nodesIn, countIn, loadIn, loadsIn, rowIn, rowsIn}
 use Rattle.area.specs.Steps.{columnIn}
 
@@ -61,14 +61,16 @@ column-at s field i whole = go (ltb i most-rows) refl
         ∙ sym (List·getD-eq-default s 0 {n = rowPlace i + field} (omega arith))
 
 -- The columns, each of one number of every row, hold the rows of the area.
-pub listed-columns : (s src dst due : List ℕ)
+pub listed-columns : (s src dst len due : List ℕ)
     → length s ≡ room
     → src ≡ columnIn 0 s
     → dst ≡ columnIn 1 s
-    → due ≡ columnIn 2 s
-    → listed (countIn s) (record { src = src; dst = dst; due = due }) ≡ rowsIn s
-unfolding listed rowsIn rowIn rowBy
-listed-columns s src dst due whole a b c = build-ext (countIn s) _ (rowIn s) (λ i h. cc (at 0 i a, at 1 i b, at 2 i c))
+    → len ≡ columnIn 2 s
+    → due ≡ columnIn 3 s
+    → listed (countIn s) (record { src = src; dst = dst; len = len; due = due }) ≡ rowsIn s
+unfolding listed rowsIn rowIn
+listed-columns s src dst len due whole a b c d =
+    build-ext (countIn s) _ (rowIn s) (λ i h. cc (at 0 i a, at 1 i b, at 2 i c, at 3 i d))
   where
     at : {xs : List ℕ} (field i : ℕ) → xs ≡ columnIn field s → getD xs i 0 ≡ getD s (rowPlace i + field) 0
     at {xs} field i is = ap (λ (l : List ℕ). getD l i 0) is ∙ column-at s field i whole

@@ -19,27 +19,24 @@ use lib.Seq.{drop-at, drop-drop, getD-drop}
 use Rattle.lists.specs.Lists.{build}
 use Rattle.lists.proofs.Build.{build-ext}
 use Rattle.table.specs.declared.Row.{Row}
+use Rattle.table.specs.Table.{rowNumbers, rowBy}
 use Rattle.table.specs.Steps.{none}
-use Rattle.area.specs.Area.{row-width, rowNumbers, rowBy, numbers}
+use Rattle.area.specs.Area.{row-width, numbers}
 
 -- A row has `row-width` numbers.
 pub row-numbers-long : (r : Row) → length (rowNumbers r) ≡ row-width
-unfolding rowNumbers
 row-numbers-long r = refl
 
 -- Numbers that agree make one row.
 pub row-by-ext : (f g : ℕ → ℕ) → ((j : ℕ) → j < row-width → f j ≡ g j) → rowBy f ≡ rowBy g
-unfolding rowBy
 row-by-ext f g same = ap (λ (l : List ℕ). rowBy (λ j. getD l j 0)) (build-ext row-width f g same)
 
 -- A row is made of its numbers.
 pub row-by-numbers : (r : Row) (behind : List ℕ) → rowBy (λ j. getD (rowNumbers r ++ behind) j 0) ≡ r
-unfolding rowBy rowNumbers
 row-by-numbers r behind = refl
 
 -- It has the numbers that it is made of.
 pub numbers-by : (f : ℕ → ℕ) → rowNumbers (rowBy f) ≡ build row-width f
-unfolding rowBy rowNumbers
 numbers-by f = refl
 
 -- The first entries of a list, built, and the rest.
@@ -90,11 +87,13 @@ rowAt xs i = rowBy (λ j. getD xs (row-width * i + j) 0)
 
 -- The first row.
 row-first : (xs : List ℕ) → rowAt xs 0 ≡ rowBy (λ j. getD xs j 0)
-row-first xs = row-by-ext _ _ (λ j l. ap (λ (k : ℕ). getD xs k 0) (omega arith))
+row-first xs =
+    row-by-ext (λ j. getD xs (row-width * 0 + j) 0) (λ j. getD xs j 0) (λ j l. ap (λ (k : ℕ). getD xs k 0) (omega arith))
 
 -- A later row.
 row-later : (xs : List ℕ) (i : ℕ) → rowAt xs (suc i) ≡ rowAt (drop row-width xs) i
-row-later xs i = row-by-ext _ _ same
+row-later xs i =
+    row-by-ext (λ j. getD xs (row-width * suc i + j) 0) (λ j. getD (drop row-width xs) (row-width * i + j) 0) same
   where
     same : (j : ℕ) → j < row-width → getD xs (row-width * suc i + j) 0 ≡ getD (drop row-width xs) (row-width * i + j) 0
     same j l =

@@ -1,11 +1,11 @@
 -- The way of a row round the ring, and the loads of all links together.
 --     crosses-by-distance      a link lies on a row's way exactly if it is nearer to the source than the destination is
 --     way-long                 a row crosses as many links as its destination is away
---     loads-sum-to-sends       all loads of a well-formed table together are the sends that the planner counts
+--     loads-sum-to-sends       all loads of a table without a bad row together are the sum of length times distance
 -- Assumes nothing.
 use mathlib.Core.Path.{_≡_, refl, _∙_, ap, sym}
 use Prim.Native.Nat.{ℕ, zero, suc, _+_, _-_, _*_, _≤_, _<_}
-use native.Mathlib.Nat.{suc-mul}
+use native.Mathlib.Nat.{mul-zero, mul-one}
 use native.Mathlib.Omega.{arith}
 use mathlib.Core.Bool.{Bool, true, false, cond, _||_, _&&_}
 use mathlib.Core.List.{List, [], _∷_}
@@ -13,14 +13,16 @@ use borrow.Author.Tests.{ltb-true, ltb-false, leb-true, leb-false, lt-ltb, le-lt
 use lib.Dec.{ltb, leb, leb·suc-suc, leb·suc-zero}
 use Rattle.lists.specs.Lists.{build, total}
 use Rattle.lists.proofs.Build.{build-ext}
+use Rattle.lists.proofs.Sums.{total-both, total-same, total-times}
 use Rattle.ring.specs.Ring.{distance}
 use Rattle.ring.proofs.Turn.{short-of-zero, past-zero}
 use Rattle.table.specs.declared.Row.{Row}
-use Rattle.table.specs.Table.{distances, WellFormed}
+use Rattle.table.specs.declared.Verdict.the-variants.{Good}
+use Rattle.table.specs.Table.{sendsOf, judgeRows}
 use Rattle.table.proofs.Judging.{GoodRow}
 use Rattle.area.specs.Area.{crosses, load}
 use Rattle.area.proofs.Loads.{counted}
-use Rattle.area.proofs.GoodRows.{AllGood, good-row, all-good}
+use Rattle.area.proofs.GoodRows.{AllGood, good-row, good-judged}
 
 -- Two tests of numbers that lie equally far apart.
 same-gap : (a b c d : ℕ) → a + d ≡ c + b → ltb a b ≡ ltb c d
@@ -83,18 +85,6 @@ crosses-by-distance n r p hp hs hd apart = rw (lt-ltb p n hp) (go (ltb s d) refl
         (omega (arith, distance-round n s p l hs, distance-round n s d h hs))
 
 -- ---- sums over the links
--- The sum of two rules is the sum of their sums.
-pub total-both : (n : ℕ) (f g : ℕ → ℕ) → total (build n (λ i. f i + g i)) ≡ total (build n f) + total (build n g)
-unfolding total
-total-both zero f g = omega arith
-total-both (suc n) f g = omega (arith, total-both n (λ i. f (suc i)) (λ i. g (suc i)))
-
--- A rule that gives the same number everywhere.
-pub total-same : (n m : ℕ) → total (build n (λ i. m)) ≡ n * m
-unfolding total
-total-same zero m = omega arith
-total-same (suc n) m = omega (arith, total-same n m, suc-mul n m)
-
 -- 1 for every place below b.
 abbrev below : ℕ → ℕ → ℕ
 below b p = cond (ltb p b) 1 0
@@ -116,9 +106,13 @@ below-long (suc n) (suc b) h =
     omega (arith, first, ap total rest, below-long n b (omega arith))
 
 -- ---- the way of one row
+-- 1 for every link that a row crosses.
+abbrev on : ℕ → Row → ℕ → ℕ
+on n r p = cond (crosses n r p) 1 0
+
 module _ (n : ℕ) (r : Row) (good : GoodRow n r) where
   -- A link on the way to a destination above the source lies below the destination, but not below the source.
-  ahead : r .src < r .dst → (p : ℕ) → p < n → counted n r p + below (r .src) p ≡ below (r .dst) p
+  ahead : r .src < r .dst → (p : ℕ) → p < n → on n r p + below (r .src) p ≡ below (r .dst) p
   unfolding crosses
   ahead h p l = rw (lt-ltb p n l, lt-ltb (r .src) (r .dst) h) (go (leb (r .src) p) refl)
     where
@@ -129,7 +123,7 @@ module _ (n : ℕ) (r : Row) (good : GoodRow n r) where
           rw (lt-ltb p (r .src) less, lt-ltb p (r .dst) (omega arith)) (omega arith)
 
   -- On the way round node 0 it lies below the destination or not below the source.
-  round : r .dst < r .src → (p : ℕ) → p < n → counted n r p + below (r .src) p ≡ 1 + below (r .dst) p
+  round : r .dst < r .src → (p : ℕ) → p < n → on n r p + below (r .src) p ≡ 1 + below (r .dst) p
   unfolding crosses
   round h p l = rw (lt-ltb p n l, le-ltb (r .src) (r .dst) (omega arith)) (go (leb (r .src) p) refl)
     where
@@ -141,21 +135,21 @@ module _ (n : ℕ) (r : Row) (good : GoodRow n r) where
 
   -- The links on the way and those below the source, summed up.
   both-sums : (g : ℕ → ℕ)
-      → ((p : ℕ) → p < n → counted n r p + below (r .src) p ≡ g p)
-      → total (build n (counted n r)) + r .src ≡ total (build n g)
+      → ((p : ℕ) → p < n → on n r p + below (r .src) p ≡ g p)
+      → total (build n (on n r)) + r .src ≡ total (build n g)
   both-sums g same =
-      let sum = total-both n (counted n r) (below (r .src)) in
-      let is = build-ext n (λ p. counted n r p + below (r .src) p) g same in
+      let sum = total-both n (on n r) (below (r .src)) in
+      let is = build-ext n (λ p. on n r p + below (r .src) p) g same in
       omega (arith, sum, ap total is, below-long n (r .src) (omega (arith, good .src-inside)))
 
   -- A row crosses as many links as its destination is away.
-  pub way-long : total (build n (counted n r)) ≡ distance n (r .src) (r .dst)
+  pub way-long : total (build n (on n r)) ≡ distance n (r .src) (r .dst)
   way-long = go (ltb (r .src) (r .dst)) refl
     where
       to : total (build n (below (r .dst))) ≡ r .dst
       to = below-long n (r .dst) (omega (arith, good .dst-inside))
 
-      go : (b : Bool) → ltb (r .src) (r .dst) ≡ b → total (build n (counted n r)) ≡ distance n (r .src) (r .dst)
+      go : (b : Bool) → ltb (r .src) (r .dst) ≡ b → total (build n (on n r)) ≡ distance n (r .src) (r .dst)
       go true e =
           let h : r .src < r .dst = ltb-true (r .src) (r .dst) e in
           let away = distance-ahead n (r .src) (r .dst) (omega arith) (good .dst-inside) in
@@ -166,16 +160,28 @@ module _ (n : ℕ) (r : Row) (good : GoodRow n r) where
           let away = distance-round n (r .src) (r .dst) h (good .src-inside) in
           omega (arith, sums, total-both n (λ p. 1) (below (r .dst)), total-same n 1, to, away)
 
--- All loads together are the sum of all distances.
-sum-of-loads : (n : ℕ) (rows : List Row) → AllGood n rows → total (build n (load n rows)) ≡ total (distances n rows)
-unfolding AllGood load distances total
+-- What one row adds to all loads together: all its cells, on each link of its way.
+way-loads : (n : ℕ) (r : Row)
+    → GoodRow n r
+    → total (build n (counted n r)) ≡ r .len * distance n (r .src) (r .dst)
+way-loads n r good =
+    ap total (build-ext n (counted n r) (λ p. r .len * on n r p) (λ p l. each (crosses n r p)))
+    ∙ total-times n (r .len) (on n r) ∙ ap (λ (k : ℕ). r .len * k) (way-long n r good)
+  where
+    each : (b : Bool) → cond b (r .len) 0 ≡ r .len * cond b 1 0
+    each true = sym (mul-one (r .len))
+    each false = sym (mul-zero (r .len))
+
+-- All loads together are the sends of all rows.
+sum-of-loads : (n : ℕ) (rows : List Row) → AllGood n rows → total (build n (load n rows)) ≡ sendsOf n rows
+unfolding AllGood load sendsOf total
 sum-of-loads n [] g = total-same n 0 ∙ omega arith
 sum-of-loads n (r ∷ rows) g =
     total-both n (counted n r) (load n rows)
-    ∙ omega (arith, way-long n r (good-row n r (g .0)), sum-of-loads n rows (g .1))
+    ∙ omega (arith, way-loads n r (good-row n r (g .0)), sum-of-loads n rows (g .1))
 
--- All loads of a well-formed table together are the sends that the planner's summary counts.
+-- All loads of a table without a bad row together are its sends: the sum of length times distance over its rows.
 pub loads-sum-to-sends : (n : ℕ) (rows : List Row)
-    → WellFormed n rows
-    → total (build n (load n rows)) ≡ total (distances n rows)
-loads-sum-to-sends n rows well = sum-of-loads n rows (all-good n rows well)
+    → judgeRows n rows 0 ≡ Good
+    → total (build n (load n rows)) ≡ sendsOf n rows
+loads-sum-to-sends n rows good = sum-of-loads n rows (good-judged n rows 0 good)

@@ -7,7 +7,7 @@ use lib.Dec.{ltb, leb}
 use lib.ListN.{length, getD, replicate}
 use Rattle.lists.specs.Lists.{build, largest, firstPlace}
 use Rattle.table.specs.declared.Row.{Row}
-use Rattle.table.specs.Table.{most-rows}
+use Rattle.table.specs.Table.{most-rows, rowNumbers, rowBy}
 use Rattle.area.specs.declared.LinkLoad.{LinkLoad}
 
 -- The most links that a ring may have.
@@ -16,15 +16,7 @@ most-links = 32
 
 -- How many numbers a row has in an area.
 abbrev pub row-width : ℕ
-row-width = 3
-
--- They are its source, its destination and its due slot.
-unfoldable pub rowNumbers : Row → List ℕ
-rowNumbers r = r .src ∷ r .dst ∷ r .due ∷ []
-
--- The row that has these numbers.
-unfoldable pub rowBy : (ℕ → ℕ) → Row
-rowBy f = record { src = f 0; dst = f 1; due = f 2 }
+row-width = 4
 
 -- Where the loads begin: behind the number of nodes and the number of rows.
 abbrev pub loads-begin : ℕ
@@ -47,10 +39,10 @@ unfoldable pub crosses : ℕ → Row → ℕ → Bool
 crosses n r p =
     ltb p n && cond (ltb (r .src) (r .dst)) (leb (r .src) p && ltb p (r .dst)) (leb (r .src) p || ltb p (r .dst))
 
--- The load of link p: how many rows cross it, counted afresh.
+-- The load of link p: how many cells cross it, all those of each row whose way it lies on, counted afresh.
 unfoldable pub load : ℕ → List Row → ℕ → ℕ
 load n [] p = 0
-load n (r ∷ rows) p = cond (crosses n r p) 1 0 + load n rows p
+load n (r ∷ rows) p = cond (crosses n r p) (r .len) 0 + load n rows p
 
 -- The numbers of a list of rows, one row behind the other.
 unfoldable pub numbers : List Row → List ℕ

@@ -21,7 +21,7 @@ pub const MOST_LINKS: usize = 32;
 pub const MOST_ROWS: usize = 512;
 
 // How many numbers a row has in an area.
-pub const ROW_WIDTH: usize = 3;
+pub const ROW_WIDTH: usize = 4;
 
 // Where the loads begin, behind the number of nodes and the number of rows.
 pub const LOADS_BEGIN: usize = 2;
@@ -35,7 +35,7 @@ pub const ROOM: usize = ROWS_BEGIN + ROW_WIDTH * MOST_ROWS;
 // The area that is lent for a table.
 pub type Area = [u16; ROOM];
 
-// A link, and how many rows cross it.
+// A link, and how many cells cross it.
 pub struct LinkLoad {
     pub link: Node,
     pub load: u16,
@@ -50,7 +50,8 @@ pub fn row_in(table: &[u16], i: usize) -> Row
     Row {
         src: table[at],
         dst: table[at + 1],
-        due: table[at + 2],
+        len: table[at + 2],
+        due: table[at + 3],
     }
 }
 
@@ -68,7 +69,7 @@ fn link_count(nodes: u16) -> usize
     lower(nodes as usize, MOST_LINKS)
 }
 
-// How many rows cross a link, 0 for a link that the ring does not have.
+// How many cells cross a link, 0 for a link that the ring does not have.
 pub fn link_load(table: &Area, link: Node) -> u16
     ensures { λ r. ⌜ r ≡ getD (loadsIn (now (table .entry))) (link .0) 0 ⌝ }
 {
@@ -123,6 +124,7 @@ pub fn columns_of(table: &Area) -> Columns
     Columns {
         src: column_of(table, 0),
         dst: column_of(table, 1),
-        due: column_of(table, 2),
+        len: column_of(table, 2),
+        due: column_of(table, 3),
     }
 }

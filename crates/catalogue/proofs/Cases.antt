@@ -13,10 +13,10 @@ use Rattle.catalogue.specs.Catalogue.{numbers, keyOf, keys, textOf, firs
 use Rattle.catalogue.specs.Catalogue.{stringRefusal, lineRefusal, linesVerdict, stringsIn, same, among, labelsIn}
 use Rattle.catalogue.specs.Catalogue.{firstRepeat, repeatedLine, afterLines, verdictOn}
 
--- r0=, r12= and f6=.
+-- r0=, r10=, r12= and f6=.
 keys-spelt :
-    keyOf 114 0 ∷ keyOf 114 12 ∷ keyOf 102 6 ∷ []
-    ≡ (114 ∷ 48 ∷ 61 ∷ []) ∷ (114 ∷ 49 ∷ 50 ∷ 61 ∷ []) ∷ (102 ∷ 54 ∷ 61 ∷ []) ∷ []
+    keyOf 114 0 ∷ keyOf 114 10 ∷ keyOf 114 12 ∷ keyOf 102 6 ∷ []
+    ≡ (114 ∷ 48 ∷ 61 ∷ []) ∷ (114 ∷ 49 ∷ 48 ∷ 61 ∷ []) ∷ (114 ∷ 49 ∷ 50 ∷ 61 ∷ []) ∷ (102 ∷ 54 ∷ 61 ∷ []) ∷ []
 unfolding keyOf width lastDigits numeral
 keys-spelt = refl
 

@@ -14,7 +14,7 @@ use Rattle.text.specs.Text.{line-feed, numeral, starts}
 -- The numbers that have a sentence, ascending: 0 for acceptance, then every refusal.
 -- Among the definitions a new refusal joins here alone.
 abbrev pub numbers : List ℕ
-numbers = 0 ∷ 1 ∷ 2 ∷ 3 ∷ 4 ∷ 5 ∷ 6 ∷ 7 ∷ 8 ∷ 9 ∷ 12 ∷ 20 ∷ 21 ∷ 22 ∷ 30 ∷ 31 ∷ 32 ∷ 33 ∷ []
+numbers = 0 ∷ 1 ∷ 2 ∷ 3 ∷ 4 ∷ 5 ∷ 6 ∷ 7 ∷ 8 ∷ 9 ∷ 10 ∷ 11 ∷ 12 ∷ 20 ∷ 21 ∷ 22 ∷ 30 ∷ 31 ∷ 32 ∷ 33 ∷ []
 
 -- The fields that have a label: nodes, source, destination, due slot, span and range.
 abbrev pub fields : List ℕ

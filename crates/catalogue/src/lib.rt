@@ -15,14 +15,35 @@ use table::Verdict;
 use text::key_at;
 
 // How many answers have a string, how many fields have a label, and how many lines that makes.
-pub const ANSWERS: usize = 18;
+pub const ANSWERS: usize = 20;
 
 pub const FIELDS: usize = 6;
 
-const LINES: usize = 24;
+const LINES: usize = 26;
 
 // The numbers of the answers that have a string, in the order of their lines.
-const NUMBERS: [u16; 18] = [0, 1, 2, 3, 4, 5, 6, 7, 8, 9, 12, 20, 21, 22, 30, 31, 32, 33];
+const NUMBERS: [u16; 20] = [
+    0,
+    1,
+    2,
+    3,
+    4,
+    5,
+    6,
+    7,
+    8,
+    9,
+    10,
+    11,
+    12,
+    20,
+    21,
+    22,
+    30,
+    31,
+    32,
+    33,
+];
 
 // A key's bytes, and how many of the four it has.
 pub struct Key {

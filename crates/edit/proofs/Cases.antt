@@ -5,13 +5,13 @@ use mathlib.Core.Path.{_≡_, refl}
 use Prim.Native.Nat.{ℕ}
 use mathlib.Core.List.{List, [], _∷_, map}
 use lib.ListN.{replicate}
-use Rattle.lists.specs.Lists.{largest, firstPlace}
+use Rattle.lists.specs.Lists.{total, largest, firstPlace}
 use Rattle.table.specs.declared.Row.{Row}
 use Rattle.table.specs.declared.Verdict.{Verdict}
 use Rattle.table.specs.declared.Verdict.the-variants.{Good, Refused}
-use Rattle.table.specs.Table.{refuse, rowRefusal}
+use Rattle.table.specs.Table.{refuse, rowRefusal, judgeRows, lengths, cellsIn, afterRows, judgeAll, judge}
 use Rattle.area.specs.declared.LinkLoad.{LinkLoad}
-use Rattle.area.specs.Area.{crosses, load, rowNumbers, rowBy, numbers, laid, areaOf, loadIn, rowIn, rowsIn, loadsIn}
+use Rattle.area.specs.Area.{crosses, load, numbers, laid, areaOf, loadIn, rowIn, rowsIn, loadsIn}
 use Rattle.area.specs.Area.{busiestIn, rows-begin, room}
 use Rattle.edit.specs.declared.Entry.the-variants as entry
 use Rattle.edit_judge.specs.Judge.{Edit, Add, Change, Remove, firstOf, sizeRefusal, numberRefusal, refusalOf}
@@ -19,9 +19,9 @@ use Rattle.edit_judge.specs.Judge.{rowNamed, verdictBy}
 use Rattle.edit_store.specs.Store.{rowsAfter, stepBy, stepFor, loadAfter, behindAfter, edited}
 use Rattle.edit.specs.Edit.{editRefusal, aboutRow, areaAfter, entryOf}
 
--- A row by source, destination and due slot; a refusal of an edit; a link and its load.
-row : (src dst due : ℕ) → Row
-row src dst due = record { src = src; dst = dst; due = due }
+-- A row by source, destination, length and due slot; a refusal of an edit; a link and its load.
+row : (src dst len due : ℕ) → Row
+row src dst len due = record { src = src; dst = dst; len = len; due = due }
 
 refused : (number row : ℕ) → Verdict
 refused number row = Refused (refuse number row 0)
@@ -43,17 +43,25 @@ step e v rows loads most = record { edit = e; verdict = v; rows = rows; loads = 
 -- The steps, one behind the other.
 steps : List Step
 steps =
-    step (Add (row 0 2 4)) Good (row 0 2 4 ∷ []) (1 ∷ 1 ∷ 0 ∷ 0 ∷ []) (busiest 0 1)
-    ∷ step (Add (row 3 1 5)) Good (row 0 2 4 ∷ row 3 1 5 ∷ []) (2 ∷ 1 ∷ 0 ∷ 1 ∷ []) (busiest 0 2)
-    ∷ step (Add (row 1 0 9)) Good (row 0 2 4 ∷ row 3 1 5 ∷ row 1 0 9 ∷ []) (2 ∷ 2 ∷ 1 ∷ 2 ∷ []) (busiest 0 2)
+    step (Add (row 0 2 3 4)) Good (row 0 2 3 4 ∷ []) (3 ∷ 3 ∷ 0 ∷ 0 ∷ []) (busiest 0 3)
+    ∷ step (Add (row 3 1 1 5)) Good (row 0 2 3 4 ∷ row 3 1 1 5 ∷ []) (4 ∷ 3 ∷ 0 ∷ 1 ∷ []) (busiest 0 4)
+    ∷ step (Add (row 1 0 2 9)) Good (row 0 2 3 4 ∷ row 3 1 1 5 ∷ row 1 0 2 9 ∷ []) (4 ∷ 5 ∷ 2 ∷ 3 ∷ []) (busiest 1 5)
     -- a source that isn't there
-    ∷ step (Add (row 4 1 5)) (refused 3 4) (row 0 2 4 ∷ row 3 1 5 ∷ row 1 0 9 ∷ []) (2 ∷ 2 ∷ 1 ∷ 2 ∷ []) (busiest 0 2)
-    ∷ step (Change 1 (row 2 3 1)) Good (row 2 3 1 ∷ row 3 1 5 ∷ row 1 0 9 ∷ []) (1 ∷ 1 ∷ 2 ∷ 2 ∷ []) (busiest 2 2)
+    ∷ step (Add (row 4 1 1 5)) (refused 3 4) (row 0 2 3 4 ∷ row 3 1 1 5 ∷ row 1 0 2 9 ∷ []) (4 ∷ 5 ∷ 2 ∷ 3 ∷ [])
+    (busiest 1 5)
+    -- too many cells for one row
+    ∷ step (Add (row 0 1 65 5)) (refused 10 4) (row 0 2 3 4 ∷ row 3 1 1 5 ∷ row 1 0 2 9 ∷ []) (4 ∷ 5 ∷ 2 ∷ 3 ∷ [])
+    (busiest 1 5)
+    ∷ step (Change 1 (row 2 3 4 1)) Good (row 2 3 4 1 ∷ row 3 1 1 5 ∷ row 1 0 2 9 ∷ []) (1 ∷ 2 ∷ 6 ∷ 3 ∷ [])
+    (busiest 2 6)
     -- a row that isn't there
-    ∷ step (Change 9 (row 2 3 1)) (refused 12 9) (row 2 3 1 ∷ row 3 1 5 ∷ row 1 0 9 ∷ []) (1 ∷ 1 ∷ 2 ∷ 2 ∷ [])
-    (busiest 2 2)
-    ∷ step (Remove 2) Good (row 2 3 1 ∷ row 1 0 9 ∷ []) (0 ∷ 1 ∷ 2 ∷ 1 ∷ []) (busiest 2 2)
-    ∷ step (Remove 0) (refused 12 0) (row 2 3 1 ∷ row 1 0 9 ∷ []) (0 ∷ 1 ∷ 2 ∷ 1 ∷ []) (busiest 2 2)
+    ∷ step (Change 9 (row 2 3 4 1)) (refused 12 9) (row 2 3 4 1 ∷ row 3 1 1 5 ∷ row 1 0 2 9 ∷ []) (1 ∷ 2 ∷ 6 ∷ 3 ∷ [])
+    (busiest 2 6)
+    -- another length, and nothing else
+    ∷ step (Change 3 (row 1 0 64 9)) Good (row 2 3 4 1 ∷ row 3 1 1 5 ∷ row 1 0 64 9 ∷ []) (1 ∷ 64 ∷ 68 ∷ 65 ∷ [])
+    (busiest 2 68)
+    ∷ step (Remove 2) Good (row 2 3 4 1 ∷ row 1 0 64 9 ∷ []) (0 ∷ 64 ∷ 68 ∷ 64 ∷ []) (busiest 2 68)
+    ∷ step (Remove 0) (refused 12 0) (row 2 3 4 1 ∷ row 1 0 64 9 ∷ []) (0 ∷ 64 ∷ 68 ∷ 64 ∷ []) (busiest 2 68)
     ∷ []
 
 -- What the definitions say of the steps from an area on.
@@ -67,7 +75,7 @@ computed s (c ∷ cs) =
 
 -- Every step comes out as expected.
 steps-come-out : computed (areaOf 4 []) steps ≡ steps
-unfolding row refused busiest step steps computed largest rowRefusal crosses load rowNumbers rowBy numbers laid areaOf
+unfolding row refused busiest step steps computed largest rowRefusal crosses load numbers laid areaOf
     loadIn rowIn rowsIn firstOf sizeRefusal numberRefusal refusalOf aboutRow rowNamed verdictBy rowsAfter stepBy stepFor
     loadAfter behindAfter edited areaAfter loadsIn firstPlace busiestIn
 steps-come-out = refl
@@ -84,24 +92,27 @@ wrong s e number about = record { area = s; edit = e; number = number; about = a
 
 -- A table of one row, and a full one.
 single : List ℕ
-single = areaOf 4 (row 0 1 1 ∷ [])
+single = areaOf 4 (row 0 1 1 1 ∷ [])
 
 full : List ℕ
-full = areaOf 4 (replicate {A = Row} 512 (row 0 1 1))
+full = areaOf 4 (replicate {A = Row} 512 (row 0 1 1 1))
 
 -- One case a line: what comes first where several things are wrong.
 wrongs : List Wrong
 wrongs =
     -- a row that isn't there, before what is wrong with the row given
     wrong (areaOf 4 []) (Remove 1) 12 1
-    ∷ wrong single (Change 2 (row 4 4 0)) 12 2
-    ∷ wrong single (Change 1 (row 4 4 0)) 3 1
-    ∷ wrong single (Change 1 (row 0 4 0)) 4 1
-    ∷ wrong single (Change 1 (row 2 2 0)) 5 1
-    ∷ wrong single (Change 1 (row 0 1 0)) 6 1
-    ∷ wrong single (Add (row 0 1 1025)) 6 2
+    ∷ wrong single (Change 2 (row 4 4 0 0)) 12 2
+    ∷ wrong single (Change 1 (row 4 4 0 0)) 3 1
+    ∷ wrong single (Change 1 (row 0 4 0 0)) 4 1
+    ∷ wrong single (Change 1 (row 2 2 0 0)) 5 1
+    -- a length, before the due slot
+    ∷ wrong single (Change 1 (row 0 1 0 0)) 10 1
+    ∷ wrong single (Add (row 0 1 65 1025)) 10 2
+    ∷ wrong single (Change 1 (row 0 1 1 0)) 6 1
+    ∷ wrong single (Add (row 0 1 64 1025)) 6 2
     -- a full table, before what is wrong with the row
-    ∷ wrong full (Add (row 4 4 0)) 2 0
+    ∷ wrong full (Add (row 4 4 0 0)) 2 0
     -- an area that no opening filled: its nodes, and then its rows
     ∷ wrong (areaOf 33 []) (Remove 1) 1 0
     ∷ wrong (1 ∷ 513 ∷ []) (Remove 1) 1 0
@@ -112,9 +123,20 @@ wrongs =
 wrongs-are-refused :
     map (λ (w : Wrong). verdictBy (editRefusal (w .area) (w .edit)) (aboutRow (w .area) (w .edit))) wrongs
     ≡ map (λ (w : Wrong). refused (w .number) (w .about)) wrongs
-unfolding row refused wrong single full wrongs rowRefusal load rowNumbers numbers laid areaOf firstOf sizeRefusal
+unfolding row refused wrong single full wrongs rowRefusal load numbers laid areaOf firstOf sizeRefusal
     numberRefusal refusalOf aboutRow rowNamed verdictBy
 wrongs-are-refused = refl
+
+-- A table of 1,024 cells takes one more: the edit is good, and 11 comes only where the rows are judged for a plan.
+many : List Row
+many = replicate {A = Row} 16 (row 0 1 64 1)
+
+cells-pass : (editRefusal (areaOf 4 many) (Add (row 0 1 1 1)) ≡ 0)
+    × (judge 4 many ≡ Good)
+    × (judge 4 (rowsAfter many (Add (row 0 1 1 1))) ≡ refused 11 0)
+unfolding row refused many rowRefusal judgeRows lengths cellsIn total afterRows judgeAll judge load numbers
+    laid areaOf firstOf sizeRefusal numberRefusal refusalOf rowsAfter
+cells-pass = (refl, refl, refl)
 
 -- Tables for 1 to 33 nodes, opened; an opened one has no rows and no loads, and its busiest link is link 0 with load 0.
 openings : map (λ (n : ℕ). verdictBy (sizeRefusal n 0) 0) (1 ∷ 2 ∷ 32 ∷ 33 ∷ [])
@@ -125,16 +147,16 @@ openings = refl
 empty-table : (rowsIn (areaOf 4 []) ≡ [])
     × (loadsIn (areaOf 4 []) ≡ 0 ∷ 0 ∷ 0 ∷ 0 ∷ [])
     × (busiestIn (loadsIn (areaOf 4 [])) ≡ busiest 0 0)
-unfolding busiest largest load rowNumbers rowBy numbers laid areaOf loadIn rowIn rowsIn loadsIn firstPlace busiestIn
+unfolding busiest largest load numbers laid areaOf loadIn rowIn rowsIn loadsIn firstPlace busiestIn
 empty-table = (refl, refl, refl)
 
 -- Rows of a table of one row, asked for.
 rows-asked : map (entryOf single) (0 ∷ 1 ∷ 2 ∷ [])
-    ≡ entry.Refused (refuse 12 0 0) ∷ entry.Shown (row 0 1 1) ∷ entry.Refused (refuse 12 2 0) ∷ []
-unfolding row single load rowNumbers rowBy numbers laid areaOf rowIn firstOf sizeRefusal numberRefusal refusalOf
+    ≡ entry.Refused (refuse 12 0 0) ∷ entry.Shown (row 0 1 1 1) ∷ entry.Refused (refuse 12 2 0) ∷ []
+unfolding row single load numbers laid areaOf rowIn firstOf sizeRefusal numberRefusal refusalOf
     rowNamed entryOf
 rows-asked = refl
 
 -- Where the rows begin in an area, and how many numbers it has: the header for C has the second.
-sizes : (rows-begin ≡ 34) × (room ≡ 1570)
+sizes : (rows-begin ≡ 34) × (room ≡ 2082)
 sizes = (refl, refl)

@@ -1,6 +1,7 @@
 -- One edit of the area of a table: a good one makes the area of the rows afterwards, count by count.
 --     load-fewer, load-changed      the load of a link, counted afresh, when row k is removed, or changed
 --     step-in, step-out             a row counted in or out
+--     load-held                     no load comes near the end of a number
 --     load-after                    the counts are those of the rows afterwards
 --     behind-after                  the zeros come out right
 --     edited-area                   a good edit makes the area of the rows afterwards
@@ -9,28 +10,29 @@
 --     length-stays                  an edit keeps the length of a whole area
 -- Assumes nothing.
 use mathlib.Core.Path.{_≡_, refl, _∙_, ap, sym, subst}
-use Prim.Native.Nat.{ℕ, suc, _+_, _-_, _*_, _≤_, _<_}
+use Prim.Native.Nat.{ℕ, suc, _+_, _-_, _*_, _≤_, _<_, min}
 use native.Mathlib.Omega.{arith}
 use mathlib.Core.Bool.{Bool, true, false, cond}
 use mathlib.Core.List.{List, [], _∷_, _++_}
-use borrow.Author.Tests.{eqb-true, ne-eqb}
+use borrow.Author.Tests.{eqb-true}
 use lib.Dec.{eqb}
 use lib.ListN.{length, getD, take, drop, replicate}
 use lib.ListN.{length-append, length-drop, length-replicate, replicate-append-replicate}
 use lib.Seq.{split-at, drop-at, drop-drop}
 use Rattle.table.specs.declared.Row.{Row}
-use Rattle.table.specs.Table.{most-rows}
+use Rattle.table.specs.Table.{most-rows, most-length}
 use Rattle.table.specs.Steps.{none}
 use Rattle.area.specs.Area.{most-links, row-width, rowPlace, room, crosses, load, laid, areaOf}
 use Rattle.area.specs.Area.{nodesIn, countIn, loadIn, rowIn, rowsIn}
 use Rattle.area.proofs.Areas.{nodes-in-area, count-in-area, load-in-area, row-in-area, rows-in-area, behind-area}
 use Rattle.area.proofs.Areas.{laid-long, laid-ext, rows-counted}
 use Rattle.area.proofs.Loads.{counted, load-between, load-more, load-few}
+use Rattle.area.proofs.GoodRows.{AllGood, cells-few}
 use Rattle.edit_judge.specs.Judge.{Edit, Add, Change, Remove, refusalOf}
 use Rattle.edit_judge.proofs.Refusals.{Fits, edit-fits}
 use Rattle.edit_store.specs.Store.{rowsAfter, stepBy, stepFor, loadAfter, behindAfter, edited}
 use Rattle.edit.specs.Edit.{editRefusal, areaAfter, rowsBy}
-use Rattle.edit.proofs.RowsAfter.{countAfter, rows-after-long}
+use Rattle.edit.proofs.RowsAfter.{countAfter, rows-after-long, few-after, good-after}
 
 -- ---- the load of link p, when row k goes or changes
 module _ (n p : ℕ) (rows : List Row) (k : ℕ) (first : 0 < k) (last : k ≤ length rows) where
@@ -52,23 +54,32 @@ module _ (n p : ℕ) (rows : List Row) (k : ℕ) (first : 0 < k) (last : k ≤ l
   load-changed r = omega (arith, load-between n p (take (k - 1) rows) r (drop k rows), load-fewer)
 
 -- ---- one count
--- A row counted in, where the count isn't at its end.
-pub step-in : (n : ℕ) (r : Row) (p x : ℕ) → x < 65535 → stepFor true n r p x ≡ counted n r p + x
+-- A row counted in, where the count doesn't come past its end.
+pub step-in : (n : ℕ) (r : Row) (p x : ℕ) → counted n r p + x ≤ 65535 → stepFor true n r p x ≡ counted n r p + x
 unfolding stepFor stepBy
-step-in n r p x h = go (crosses n r p)
+step-in n r p x = go (crosses n r p)
   where
-    go : (b : Bool) → cond b (cond (eqb x 65535) x (suc x)) x ≡ cond b 1 0 + x
-    go true = let below : x ≡ 65535 → ⊥ = λ e. omega arith in rw (ne-eqb x 65535 below) (omega arith)
-    go false = omega arith
+    go : (b : Bool)
+        → cond b (r .len) 0 + x ≤ 65535
+        → cond b (min (x + r .len) 65535) x ≡ cond b (r .len) 0 + x
+    go true h = omega arith
+    go false h = omega arith
 
 -- A row counted out that was counted in.
 pub step-out : (n : ℕ) (r : Row) (p x : ℕ) → stepFor false n r p (counted n r p + x) ≡ x
 unfolding stepFor stepBy
 step-out n r p x = go (crosses n r p)
   where
-    go : (b : Bool) → cond b (cond b 1 0 + x - 1) (cond b 1 0 + x) ≡ x
+    go : (b : Bool) → cond b (cond b (r .len) 0 + x - r .len) (cond b (r .len) 0 + x) ≡ x
     go true = omega arith
     go false = omega arith
+
+-- No load of at most 512 rows of which none is bad is above 512 times 64.
+pub load-held : (n p : ℕ) (rows : List Row)
+    → length rows ≤ most-rows
+    → AllGood n rows
+    → load n rows p ≤ most-rows * most-length
+load-held n p rows few good = omega (arith, load-few n p rows, cells-few n rows good)
 
 -- ---- the parts of an area
 -- As many zeros as stand behind `count` rows.
@@ -96,7 +107,7 @@ area-is : (n : ℕ) (rows : List Row) → areaOf n rows ≡ laid n (load n rows)
 unfolding areaOf
 area-is n rows = refl
 
-module _ (n : ℕ) (rows : List Row) (few : length rows ≤ most-rows) where
+module _ (n : ℕ) (rows : List Row) (few : length rows ≤ most-rows) (good : AllGood n rows) where
   -- The table's area.
   abbrev s : List ℕ
   s = areaOf n rows
@@ -113,6 +124,10 @@ module _ (n : ℕ) (rows : List Row) (few : length rows ≤ most-rows) where
       rw (nodes-in-area n rows, old, load-in-area n rows p l, load-fewer n p rows k first last)
       (step-out n (getD rows (k - 1) none) p (load n (rowsAfter rows (Remove k)) p))
 
+  -- No count comes near its end.
+  held : (e : Edit) → Fits n (length rows) e → (p : ℕ) → load n (rowsAfter rows e) p ≤ most-rows * most-length
+  held e fits p = load-held n p (rowsAfter rows e) (few-after n rows e few fits) (good-after n rows e fits good)
+
   -- The counts after an edit are those of the rows afterwards.
   pub load-after : (e : Edit)
       → Fits n (length rows) e
@@ -121,14 +136,16 @@ module _ (n : ℕ) (rows : List Row) (few : length rows ≤ most-rows) where
       → loadAfter s e p ≡ load n (rowsAfter rows e) p
   unfolding Fits loadAfter rowsAfter
   load-after (Add r) h p l =
+      let most = held (Add r) h p in
       rw (nodes-in-area n rows, load-in-area n rows p l, load-more n p rows r)
-      (step-in n r p (load n rows p) (omega (arith, load-few n p rows)))
+      (step-in n r p (load n rows p) (omega (arith, most, load-more n p rows r)))
   load-after (Change k r) h p l =
       let others : ℕ = load n (rowsAfter rows (Remove k)) p in
       let fewer = load-fewer n p rows k (h .0 .0) (h .0 .1) in
-      let below : others < 65535 = omega (arith, load-few n p rows, fewer) in
+      let moved = load-changed n p rows k (h .0 .0) (h .0 .1) r in
+      let below : counted n r p + others ≤ 65535 = omega (arith, held (Change k r) h p, fewer, moved) in
       rw (counted-out k (h .0 .0) (h .0 .1) p l, nodes-in-area n rows)
-      (step-in n r p others below ∙ omega (arith, fewer, load-changed n p rows k (h .0 .0) (h .0 .1) r))
+      (step-in n r p others below ∙ omega (arith, fewer, moved))
   load-after (Remove k) h p l = counted-out k (h .0) (h .1) p l
 
   -- The zeros behind the rows are as many as there should be.
@@ -160,10 +177,11 @@ rowsNext n rows e = cond (eqb (refusalOf n (length rows) e) 0) (rowsAfter rows e
 -- Any edit of the area of a table makes the area of the rows that it leaves.
 pub area-after : (n : ℕ) (rows : List Row)
     → length rows ≤ most-rows
+    → AllGood n rows
     → (e : Edit)
     → areaAfter (areaOf n rows) e ≡ areaOf n (rowsNext n rows e)
 unfolding areaAfter
-area-after n rows few e = rw (nodes-in-area n rows, count-in-area n rows) (go (eqb why 0) refl)
+area-after n rows few good e = rw (nodes-in-area n rows, count-in-area n rows) (go (eqb why 0) refl)
   where
     why : ℕ
     why = refusalOf n (length rows) e
@@ -171,7 +189,7 @@ area-after n rows few e = rw (nodes-in-area n rows, count-in-area n rows) (go (e
     go : (b : Bool)
         → eqb why 0 ≡ b
         → cond b (edited (areaOf n rows) e) (areaOf n rows) ≡ areaOf n (cond b (rowsAfter rows e) rows)
-    go true f = edited-area n rows few e (edit-fits n (length rows) e (eqb-true why 0 f) .1)
+    go true f = edited-area n rows few good e (edit-fits n (length rows) e (eqb-true why 0 f) .1)
     go false f = refl
 
 -- What every good edit keeps, one edit keeps, refused or not, and so do any edits.

@@ -7,9 +7,9 @@
 use mathlib.Core.Path.{_≡_, refl, sym, _∙_, ap}
 use mathlib.Core.Bool.{Bool, true, false, cond, _||_}
 use mathlib.Core.List.{List, [], _∷_, _++_}
-use Prim.Native.Nat.{ℕ, suc, _+_, _*_, _-_, _≤_, _<_}
+use Prim.Native.Nat.{ℕ, suc, _+_, _*_, _-_, _≤_, _<_, min}
 use native.Mathlib.Omega.{arith}
-use borrow.Author.Tests.{eq-eqb, ne-eqb, lt-ltb, eqb-true}
+use borrow.Author.Tests.{eq-eqb, ne-eqb, lt-ltb, ltb-true, ltb-false}
 use lib.Dec.{eqb, ltb}
 use lib.ListN.{length, replicate, set, replicate-append-replicate}
 use Rattle.lists.proofs.Build.{build-const}
@@ -66,18 +66,20 @@ large-refused n count r h = go (ltb n 2 || ltb most-links n)
 
 -- An added row is named under its coming number.
 pub coming-number : (n count : ℕ) (r : Row)
-    → rowNamed (refusalOf n count (Add r)) (stepBy true count) ≡ rowNamed (refusalOf n count (Add r)) (suc count)
+    → rowNamed (refusalOf n count (Add r)) (stepBy true 1 count) ≡ rowNamed (refusalOf n count (Add r)) (suc count)
 unfolding rowNamed stepBy
-coming-number n count r = go (eqb count 65535) refl
+coming-number n count r = go (ltb count 65535) refl
   where
     why : ℕ
     why = refusalOf n count (Add r)
 
     go : (b : Bool)
-        → eqb count 65535 ≡ b
-        → cond (ltb why 3) 0 (cond b count (suc count)) ≡ cond (ltb why 3) 0 (suc count)
-    go true e = rw (lt-ltb why 3 (large-refused n count r (omega (arith, eqb-true count 65535 e))))
-    go false e = refl
+        → ltb count 65535 ≡ b
+        → cond (ltb why 3) 0 (min (count + 1) 65535) ≡ cond (ltb why 3) 0 (suc count)
+    go true e =
+        let held : min (count + 1) 65535 ≡ suc count = omega (arith, ltb-true count 65535 e) in
+        rw held
+    go false e = rw (lt-ltb why 3 (large-refused n count r (omega (arith, ltb-false count 65535 e))))
 
 -- The outcome of an edit, refused and not.
 module _ (s : List ℕ) (e : Edit) (why : ℕ) (so : why ≡ editRefusal s e) where

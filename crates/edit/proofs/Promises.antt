@@ -3,23 +3,23 @@
 --     edits-make-rows                after any edits the area is that of the rows edited, every number of it
 --     rows-are-those-entered         its rows are those entered
 --     counts-are-fresh               its counts are those that counting afresh gives
---     no-count-overflows             no count is above 512
---     edited-is-well-formed          an edited table is never refused with 1 to 6
+--     no-count-overflows             no count is above 512 times 64
+--     edited-is-well-formed          an edited table is never refused with 1 to 6 or 10; 11 comes by its cells alone
 --     sizes-stay-good                its sizes are never refused
---     loads-are-sends                all its counts together are the sends that the planner counts
+--     loads-are-sends                all its counts together are its sends: length times distance, over its rows
 --     refused-changes-nothing        a refused edit leaves the area as it was
 --     refused-opening-leaves, refused-edit-leaves      the same of an outcome whose verdict is a refusal
 --     only-on-the-ways               an edit changes no count off the ways of its rows
 --     adding-raises, removing-lowers, changing-moves      and by how much it changes those on them
---     busiest-of-edited              the busiest link of an edited table: the lowest of those that the most rows cross
+--     busiest-of-edited              the busiest link of an edited table: the lowest of those that the most cells cross
 -- Assumes nothing.
 use mathlib.Core.Path.{_≡_, refl, _∙_, ap, sym}
-use Prim.Native.Nat.{ℕ, _+_, _-_, _≤_, _<_, min}
+use Prim.Native.Nat.{ℕ, _+_, _-_, _*_, _≤_, _<_, min}
 use native.Mathlib.Omega.{arith}
 use mathlib.Core.Bool.{Bool, true, false, cond, _||_, true≢false}
 use mathlib.Core.List.{List, [], _∷_}
 use borrow.Author.Tests.{ne-eqb}
-use lib.Dec.{eqb}
+use lib.Dec.{eqb, ltb}
 use lib.ListN.{length, getD}
 use Rattle.lists.specs.Lists.{build, total}
 use Rattle.lists.proofs.Build.{build-ext}
@@ -27,22 +27,23 @@ use Rattle.table.specs.declared.Row.{Row}
 use Rattle.table.specs.declared.Refusal.{Refusal}
 use Rattle.table.specs.declared.Verdict.{Verdict}
 use Rattle.table.specs.declared.Verdict.the-variants.{Good, Refused}
-use Rattle.table.specs.Table.{most-rows, distances, WellFormed}
+use Rattle.table.specs.Table.{most-rows, most-length, most-cells, refuse, sendsOf, cellsIn, judge}
 use Rattle.table.specs.Steps.{none}
 use Rattle.table.proofs.Judging.{never-good}
 use Rattle.area.specs.Area.{most-links, crosses, load, areaOf, nodesIn, countIn, loadIn, rowIn, rowsIn}
 use Rattle.area.specs.Area.{loadsIn, busiestIn}
 use Rattle.area.proofs.Areas.{load-in-laid, nodes-in-area, count-in-area, load-in-area, row-in-area, rows-in-area}
-use Rattle.area.proofs.Loads.{load-more, load-few}
-use Rattle.area.proofs.GoodRows.{AllGood}
+use Rattle.area.proofs.Loads.{load-more}
+use Rattle.area.proofs.GoodRows.{AllGood, judged-good}
 use Rattle.area.proofs.Ways.{loads-sum-to-sends}
 use Rattle.area.proofs.Promises.{Busiest, busiest-built}
 use Rattle.edit_judge.specs.Judge.{Edit, Add, Change, Remove, sizeRefusal, verdictBy}
-use Rattle.edit_judge.proofs.Refusals.{size-of, size-fits, Fits, edit-fits, well-formed}
+use Rattle.edit_judge.proofs.Refusals.{size-of, size-fits, Fits, edit-fits, judged-by-cells}
 use Rattle.edit_store.specs.Store.{rowsAfter, stepFor, loadAfter, behindAfter, edited}
 use Rattle.edit.specs.Edit.{editRefusal, aboutRow, areaAfter, Opened, Edited, afterEdits, rowsBy}
 use Rattle.edit.proofs.RowsAfter.{few-after, good-after}
-use Rattle.edit.proofs.Editing.{load-fewer, load-changed, edited-area, rowsNext, area-after, keeps-next, keeps}
+use Rattle.edit.proofs.Editing.{load-fewer, load-changed, load-held, edited-area, rowsNext, area-after}
+use Rattle.edit.proofs.Editing.{keeps-next, keeps}
 
 -- ---- one outcome
 -- Two outcomes of opening a table that fit its promise are equal: the verdict, and every number of the area.
@@ -60,27 +61,29 @@ pub one-edit : {s s₁ s₂ : List ℕ} {e : Edit} {v₁ v₂ : Verdict}
 one-edit a b = (a .answers ∙ sym (b .answers), a .fills ∙ sym (b .fills))
 
 -- ---- any list of edits
--- An edit leaves at most 512 rows.
-few-next : (n : ℕ) (rows : List Row)
-    → length rows ≤ most-rows
-    → (e : Edit)
-    → length (rowsNext n rows e) ≤ most-rows
-few-next n rows few e = keeps-next n (λ rs. length rs ≤ most-rows) (λ rs f h fits. few-after n rs f h fits) rows e few
+-- At most 512 rows, of which none is bad.
+abbrev pub Kept : ℕ → List Row → Type 0
+Kept n rows = (length rows ≤ most-rows) × AllGood n rows
 
--- Edits of the area of a table make the area of the rows edited.
+-- A good edit leaves such rows.
+kept-after : (n : ℕ) (rows : List Row) (e : Edit) → Kept n rows → Fits n (length rows) e → Kept n (rowsAfter rows e)
+kept-after n rows e h fits = (few-after n rows e (h .0) fits, good-after n rows e fits (h .1))
+
+-- Edits of the area of a table without a bad row make the area of the rows edited.
 pub edits-make-rows-from : (n : ℕ) (es : List Edit) (rows : List Row)
-    → length rows ≤ most-rows
+    → Kept n rows
     → afterEdits (areaOf n rows) es ≡ areaOf n (rowsBy n rows es)
 unfolding afterEdits rowsBy
-edits-make-rows-from n [] rows few = refl
-edits-make-rows-from n (e ∷ es) rows few =
-    ap (λ (s : List ℕ). afterEdits s es) (area-after n rows few e)
-    ∙ edits-make-rows-from n es (rowsNext n rows e) (few-next n rows few e)
+edits-make-rows-from n [] rows h = refl
+edits-make-rows-from n (e ∷ es) rows h =
+    ap (λ (s : List ℕ). afterEdits s es) (area-after n rows (h .0) (h .1) e)
+    ∙ edits-make-rows-from n es (rowsNext n rows e) (keeps-next n (Kept n) (kept-after n) rows e h)
 
 module _ (n : ℕ) (es : List Edit) where
   -- After any edits of a table that was opened, the area is that of the rows edited, every number of it.
   pub edits-make-rows : afterEdits (areaOf n []) es ≡ areaOf n (rowsBy n [] es)
-  edits-make-rows = edits-make-rows-from n es [] (omega arith)
+  unfolding AllGood
+  edits-make-rows = edits-make-rows-from n es [] (omega arith, tt)
 
   -- The area after the edits, and the rows edited.
   abbrev s : List ℕ
@@ -102,19 +105,19 @@ module _ (n : ℕ) (es : List Edit) where
   counts-are-fresh p l = its-load p l ∙ ap (λ (rs : List Row). load n rs p) (sym rows-are-those-entered)
 
   -- It never has more than 512 rows, and none of them is bad.
-  kept : (length rows ≤ most-rows) × AllGood n rows
+  kept : Kept n rows
   unfolding AllGood
-  kept =
-      keeps n (λ rs. (length rs ≤ most-rows) × AllGood n rs)
-      (λ rs e h fits. (few-after n rs e (h .0) fits, good-after n rs e fits (h .1))) es [] (omega arith, tt)
+  kept = keeps n (Kept n) (kept-after n) es [] (omega arith, tt)
 
-  -- No count is above 512.
-  pub no-count-overflows : (p : ℕ) → p < most-links → loadIn s p ≤ most-rows
-  no-count-overflows p l = omega (arith, its-load p l, load-few n p rows, kept .0)
+  -- No count is above 512 rows times 64 cells, 32,768.
+  pub no-count-overflows : (p : ℕ) → p < most-links → loadIn s p ≤ most-rows * most-length
+  no-count-overflows p l = omega (arith, its-load p l, load-held n p rows (kept .0) (kept .1))
 
-  -- A table that could be opened is never refused with 1 to 6, however it was edited.
-  pub edited-is-well-formed : sizeRefusal n 0 ≡ 0 → WellFormed n rows
-  edited-is-well-formed opened = well-formed n rows (size-of n (length rows) (kept .0) ∙ opened) (kept .1)
+  -- A table that could be opened is never refused with 1 to 6 or 10, however it was edited: it is well-formed, or it
+  -- has more than 1,024 cells and is refused with 11.
+  pub edited-is-well-formed : sizeRefusal n 0 ≡ 0
+      → judge n rows ≡ cond (ltb most-cells (cellsIn rows)) (Refused (refuse 11 0 0)) Good
+  edited-is-well-formed opened = judged-by-cells n rows (size-of n (length rows) (kept .0) ∙ opened) (kept .1)
 
   -- Its sizes are never refused.
   pub sizes-stay-good : sizeRefusal n 0 ≡ 0 → sizeRefusal (nodesIn s) (countIn s) ≡ 0
@@ -130,14 +133,14 @@ module _ (n : ℕ) (es : List Edit) where
       ∙ ap (λ (k : ℕ). build k (loadIn s)) links
       ∙ build-ext n (loadIn s) (load n rows) (λ p l. its-load p (omega arith))
 
-  -- All its counts together are the sends that the planner's summary counts.
-  pub loads-are-sends : sizeRefusal n 0 ≡ 0 → total (loadsIn s) ≡ total (distances n (rowsIn s))
+  -- All its counts together are its sends: the sum of length times distance over its rows.
+  pub loads-are-sends : sizeRefusal n 0 ≡ 0 → total (loadsIn s) ≡ sendsOf n (rowsIn s)
   loads-are-sends opened =
       ap total (its-loads (size-fits n 0 opened .most))
-      ∙ loads-sum-to-sends n rows (edited-is-well-formed opened)
-      ∙ ap (λ (rs : List Row). total (distances n rs)) (sym rows-are-those-entered)
+      ∙ loads-sum-to-sends n rows (judged-good n rows 0 (kept .1))
+      ∙ ap (sendsOf n) (sym rows-are-those-entered)
 
-  -- How much one more edit changes the counts: a row counts 1 on its way and 0 elsewhere.
+  -- How much one more edit changes the counts: a row counts its cells on its way and 0 elsewhere.
   -- An edit that isn't refused fits the rows edited.
   fits-it : (e : Edit) → editRefusal s e ≡ 0 → Fits n (length rows) e
   fits-it e h =
@@ -153,7 +156,7 @@ module _ (n : ℕ) (es : List Edit) where
   unfolding areaAfter
   load-then p l e h =
       let made : edited s e ≡ areaOf n (rowsAfter rows e) =
-      ap (λ (a : List ℕ). edited a e) edits-make-rows ∙ edited-area n rows (kept .0) e (fits-it e h)
+      ap (λ (a : List ℕ). edited a e) edits-make-rows ∙ edited-area n rows (kept .0) (kept .1) e (fits-it e h)
       in
       rw (h, made) (load-in-area n (rowsAfter rows e) p l)
 
@@ -162,17 +165,17 @@ module _ (n : ℕ) (es : List Edit) where
   its-row k first last = ap (λ (a : List ℕ). rowIn a (k - 1)) edits-make-rows ∙ row-in-area n rows (k - 1) (omega arith)
 
   module _ (p : ℕ) (l : p < most-links) where
-    -- Adding a row raises each count on its way by exactly one, and no other.
+    -- Adding a row raises each count on its way by exactly its length, and no other.
     pub adding-raises : (r : Row)
         → editRefusal s (Add r) ≡ 0
-        → loadIn (areaAfter s (Add r)) p ≡ cond (crosses n r p) 1 0 + loadIn s p
+        → loadIn (areaAfter s (Add r)) p ≡ cond (crosses n r p) (r .len) 0 + loadIn s p
     unfolding rowsAfter
     adding-raises r h = omega (arith, load-then p l (Add r) h, load-more n p rows r, its-load p l)
 
-    -- Removing a row lowers each count on its way by exactly one, and no other.
+    -- Removing a row lowers each count on its way by exactly its length, and no other.
     pub removing-lowers : (k : ℕ)
         → editRefusal s (Remove k) ≡ 0
-        → loadIn s p ≡ cond (crosses n (rowIn s (k - 1)) p) 1 0 + loadIn (areaAfter s (Remove k)) p
+        → loadIn s p ≡ cond (crosses n (rowIn s (k - 1)) p) (rowIn s (k - 1) .len) 0 + loadIn (areaAfter s (Remove k)) p
     unfolding Fits
     removing-lowers k h =
         let there = fits-it (Remove k) h in
@@ -182,8 +185,8 @@ module _ (n : ℕ) (es : List Edit) where
     -- Changing a row counts it out as it was, and in as it is now.
     pub changing-moves : (k : ℕ) (r : Row)
         → editRefusal s (Change k r) ≡ 0
-        → cond (crosses n (rowIn s (k - 1)) p) 1 0 + loadIn (areaAfter s (Change k r)) p
-        ≡ cond (crosses n r p) 1 0 + loadIn s p
+        → cond (crosses n (rowIn s (k - 1)) p) (rowIn s (k - 1) .len) 0 + loadIn (areaAfter s (Change k r)) p
+        ≡ cond (crosses n r p) (r .len) 0 + loadIn s p
     unfolding Fits
     changing-moves k r h =
         let there = fits-it (Change k r) h .0 in
@@ -252,7 +255,7 @@ only-on-the-ways s e p l off = go (eqb (editRefusal s e) 0)
     go false = refl
 
 -- ---- the busiest link
--- The busiest link of an edited table is the lowest of those that the most rows cross, counted afresh.
+-- The busiest link of an edited table is the lowest of those that the most cells cross, counted afresh.
 pub busiest-of-edited : (n : ℕ) (es : List Edit)
     → sizeRefusal n 0 ≡ 0
     → Busiest n (load n (rowsIn (afterEdits (areaOf n []) es))) (busiestIn (loadsIn (afterEdits (areaOf n []) es)))

@@ -45,7 +45,7 @@ pub fn add(table: &mut Area, row: Row) -> Verdict
     let rows = table[1];
     let why = add_refusal(table[0], rows, row);
     if why != 0 {
-        return Verdict::Refused(refusal(why, stepped(rows, true)));
+        return Verdict::Refused(refusal(why, stepped(rows, 1, true)));
     }
     add_row(table, row);
     Verdict::Good

@@ -3,7 +3,7 @@
 --     size-fits, size-of               the nodes and rows of an area that isn't refused by its sizes
 --     number-fits                      a row number that is there
 --     Fits, edit-fits                  an edit that isn't refused: there is room or the row is there, its row is good
---     well-formed                      a table within its sizes that has no bad row is well-formed
+--     judged-by-cells                  a table within its sizes that has no bad row is judged by its cells alone
 -- Assumes nothing.
 use mathlib.Core.Path.{_≡_, refl}
 use Prim.Native.Nat.{ℕ, _≤_, _<_}
@@ -14,8 +14,9 @@ use borrow.Author.Tests.{eqb-true, eqb-false, ltb-false, le-ltb}
 use lib.Dec.{eqb, ltb}
 use lib.ListN.{length}
 use Rattle.table.specs.declared.Row.{Row}
+use Rattle.table.specs.declared.Verdict.{Verdict}
 use Rattle.table.specs.declared.Verdict.the-variants.{Good, Refused}
-use Rattle.table.specs.Table.{most-rows, refuse, rowRefusal, judgeRows, judge, WellFormed}
+use Rattle.table.specs.Table.{most-rows, most-cells, refuse, rowRefusal, cellsIn, afterRows, judgeAll, judge}
 use Rattle.area.specs.Area.{most-links}
 use Rattle.area.proofs.GoodRows.{AllGood, judged-good}
 use Rattle.edit_judge.specs.Judge.{Edit, Add, Change, Remove, firstOf, sizeRefusal, numberRefusal, refusalOf}
@@ -99,14 +100,20 @@ edit-fits n count (Remove k) h =
     let a = neither _ _ h in
     (size-fits n count (a .0), number-fits count k (a .1))
 
--- A table within its sizes that has no bad row is well-formed.
-pub well-formed : (n : ℕ) (rows : List Row) → sizeRefusal n (length rows) ≡ 0 → AllGood n rows → WellFormed n rows
-unfolding sizeRefusal judge
-well-formed n rows e g = go (ltb n 2 || ltb most-links n) (ltb most-rows (length rows)) e
+-- A table within its sizes that has no bad row is judged by its cells alone: it is good, or refused with 11.
+pub judged-by-cells : (n : ℕ) (rows : List Row)
+    → sizeRefusal n (length rows) ≡ 0
+    → AllGood n rows
+    → judge n rows ≡ cond (ltb most-cells (cellsIn rows)) (Refused (refuse 11 0 0)) Good
+unfolding sizeRefusal judge judgeAll afterRows
+judged-by-cells n rows e g = go (ltb n 2 || ltb most-links n) (ltb most-rows (length rows)) e
   where
+    cells : Verdict
+    cells = cond (ltb most-cells (cellsIn rows)) (Refused (refuse 11 0 0)) Good
+
     go : (a b : Bool)
         → _≡_ {A = ℕ} (cond a 1 (cond b 2 0)) 0
-        → cond a (Refused (refuse 1 0 0)) (cond b (Refused (refuse 2 0 0)) (judgeRows n rows 0)) ≡ Good
+        → cond a (Refused (refuse 1 0 0)) (cond b (Refused (refuse 2 0 0)) (judgeAll n rows)) ≡ cells
     go true b e = absurd (omega arith)
     go false true e = absurd (omega arith)
-    go false false e = judged-good n rows 0 g
+    go false false e = rw (judged-good n rows 0 g)

@@ -16,38 +16,40 @@ use Rattle.lists.specs.Lists.{build}
 use Rattle.lists.proofs.Build.{build-of, map-build, is-build, length-build}
 use Rattle.lists.proofs.Filling.{filled, filled-more, filled-all, filled-past, filled-long}
 use Rattle.table.specs.declared.Row.{Row}
-use Rattle.area.specs.Area.{row-width, rowNumbers}
+use Rattle.table.specs.Table.{rowNumbers}
+use Rattle.area.specs.Area.{row-width}
 use Rattle.edit_store.specs.Store.{stepBy}
 
 -- One store for each number of a row.
 pub row-set : (r : Row) (part : List ℕ)
     → length part ≡ row-width
-    → set (set (set part 0 (r .src)) 1 (r .dst)) 2 (r .due) ≡ rowNumbers r
-unfolding rowNumbers
+    → set (set (set (set part 0 (r .src)) 1 (r .dst)) 2 (r .len)) 3 (r .due) ≡ rowNumbers r
 row-set r [] h = absurd (omega arith)
 row-set r (x ∷ []) h = absurd (omega arith)
 row-set r (x ∷ y ∷ []) h = absurd (omega arith)
-row-set r (x ∷ y ∷ z ∷ []) h = refl
-row-set r (x ∷ y ∷ z ∷ w ∷ part) h = absurd (omega arith)
+row-set r (x ∷ y ∷ z ∷ []) h = absurd (omega arith)
+row-set r (x ∷ y ∷ z ∷ w ∷ []) h = refl
+row-set r (x ∷ y ∷ z ∷ w ∷ v ∷ part) h = absurd (omega arith)
 
 -- A stretch of counts stepped one by one.
-module _ (up : Bool) (d : List ℕ) where
+module _ (up : Bool) (step : ℕ) (d : List ℕ) where
   abbrev pub stepOf : ℕ → ℕ
-  stepOf i = stepBy up (getD d i 0)
+  stepOf i = stepBy up step (getD d i 0)
 
   pub step-more : (part : List ℕ) (i x : ℕ)
       → i < length d
       → part ≡ filled stepOf d i
-      → x ≡ stepBy up (getD part i 0)
+      → x ≡ stepBy up step (getD part i 0)
       → set part i x ≡ filled stepOf d (i + 1)
   step-more part i x h so e =
       let here : getD part i 0 ≡ getD d i 0 = rw so (filled-past stepOf d i i 0 (omega arith)) in
       rw (so, e, here) (filled-more stepOf d i h)
 
-  pub step-end : (part : List ℕ) (i : ℕ) → i ≡ length d → part ≡ filled stepOf d i → part ≡ map (stepBy up) d
+  pub step-end : (part : List ℕ) (i : ℕ) → i ≡ length d → part ≡ filled stepOf d i → part ≡ map (stepBy up step) d
   step-end part i e so =
       so ∙ rw e (filled-all stepOf d)
-      ∙ sym (map-build (length d) (stepBy up) (λ j. getD d j 0)) ∙ ap (map (stepBy up)) (build-of (length d) 0 d refl)
+      ∙ sym (map-build (length d) (stepBy up step) (λ j. getD d j 0))
+      ∙ ap (map (stepBy up step)) (build-of (length d) 0 d refl)
 
 -- A stretch of rows moved down by one row.
 module _ (d : List ℕ) where

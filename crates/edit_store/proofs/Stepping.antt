@@ -59,21 +59,21 @@ module _ (a b : ℕ) (l ys : List ℕ) (h : a ≤ b) (k : b ≤ length l) (long 
 abbrev pub between : (a b p : ℕ) → Bool
 between a b p = leb a p && ltb p b
 
--- The count x of link p where the stretch from a to b is stepped.
-abbrev pub inStretch : (up : Bool) (a b p x : ℕ) → ℕ
-inStretch up a b p x = cond (between a b p) (stepBy up x) x
+-- The count x of link p where the stretch from a to b is stepped by one step.
+abbrev pub inStretch : (up : Bool) (step a b p x : ℕ) → ℕ
+inStretch up step a b p x = cond (between a b p) (stepBy up step x) x
 
-module _ (up : Bool) (a b : ℕ) where
-  pub stretch-in : (p x : ℕ) → a ≤ p → p < b → inStretch up a b p x ≡ stepBy up x
+module _ (up : Bool) (step a b : ℕ) where
+  pub stretch-in : (p x : ℕ) → a ≤ p → p < b → inStretch up step a b p x ≡ stepBy up step x
   stretch-in p x h k = rw (le-leb a p h, lt-ltb p b k)
 
-  pub stretch-below : (p x : ℕ) → p < a → inStretch up a b p x ≡ x
+  pub stretch-below : (p x : ℕ) → p < a → inStretch up step a b p x ≡ x
   stretch-below p x h = rw (lt-leb a p h)
 
-  pub stretch-above : (p x : ℕ) → b ≤ p → inStretch up a b p x ≡ x
+  pub stretch-above : (p x : ℕ) → b ≤ p → inStretch up step a b p x ≡ x
   stretch-above p x h = go (leb a p)
     where
-      go : (t : Bool) → cond (t && ltb p b) (stepBy up x) x ≡ x
+      go : (t : Bool) → cond (t && ltb p b) (stepBy up step x) x ≡ x
       go true = rw (le-ltb p b h)
       go false = refl
 
@@ -81,16 +81,16 @@ module _ (up : Bool) (a b : ℕ) where
   pub part-stepped : (l ys : List ℕ)
       → a ≤ b
       → b ≤ length l
-      → ys ≡ map (stepBy up) (midOf a (b - a) l)
-      → putMid a (b - a) l ys ≡ build (length l) (λ p. inStretch up a b p (getD l p 0))
+      → ys ≡ map (stepBy up step) (midOf a (b - a) l)
+      → putMid a (b - a) l ys ≡ build (length l) (λ p. inStretch up step a b p (getD l p 0))
   part-stepped l ys h k so =
-      is-build (length l) (λ p. inStretch up a b p (getD l p 0)) 0 (putMid a (b - a) l ys) (put-long a b l ys h k long)
-      (λ p s. entry p (ltb p a) (ltb p b) refl refl)
+      is-build (length l) (λ p. inStretch up step a b p (getD l p 0)) 0 (putMid a (b - a) l ys)
+      (put-long a b l ys h k long) (λ p s. entry p (ltb p a) (ltb p b) refl refl)
     where
       long : length ys ≡ b - a
-      long = ap length so ∙ length-map (midOf a (b - a) l) (stepBy up) ∙ mid-len a b l k
+      long = ap length so ∙ length-map (midOf a (b - a) l) (stepBy up step) ∙ mid-len a b l k
 
-      inside : (p : ℕ) → a ≤ p → p < b → getD ys (p - a) 0 ≡ stepBy up (getD l p 0)
+      inside : (p : ℕ) → a ≤ p → p < b → getD ys (p - a) 0 ≡ stepBy up step (getD l p 0)
       inside p s t =
           let short : p - a < length (midOf a (b - a) l) = omega (arith, mid-len a b l k) in
           let back : a + (p - a) ≡ p = omega arith in
@@ -98,12 +98,12 @@ module _ (up : Bool) (a b : ℕ) where
           getD-take (b - a) (drop a l) (p - a) 0 (omega arith)
           ∙ getD-drop a l (p - a) 0 ∙ ap (λ (i : ℕ). getD l i 0) back
           in
-          rw so (map-at (stepBy up) (midOf a (b - a) l) (p - a) short ∙ ap (stepBy up) there)
+          rw so (map-at (stepBy up step) (midOf a (b - a) l) (p - a) short ∙ ap (stepBy up step) there)
 
       entry : (p : ℕ) (before inside : Bool)
           → ltb p a ≡ before
           → ltb p b ≡ inside
-          → getD (putMid a (b - a) l ys) p 0 ≡ inStretch up a b p (getD l p 0)
+          → getD (putMid a (b - a) l ys) p 0 ≡ inStretch up step a b p (getD l p 0)
       entry p true y ex ey =
           let less = ltb-true p a ex in
           put-before a b l ys h k long p less ∙ sym (stretch-below p (getD l p 0) less)
@@ -126,13 +126,13 @@ module _ (up : Bool) (n : ℕ) (r : Row) where
       → p < n
       → (b : Bool)
       → cond (ltb (r .src) (r .dst)) (leb (r .src) p && ltb p (r .dst)) (leb (r .src) p || ltb p (r .dst)) ≡ b
-      → stepFor up n r p x ≡ cond b (stepBy up x) x
+      → stepFor up n r p x ≡ cond b (stepBy up (r .len) x) x
   unfolding stepFor crosses
   on-way p x h b e = rw (lt-ltb p n h, e)
 
   pub one-stretch : r .src < r .dst
       → (p x : ℕ)
-      → inStretch up (min (r .src) n) (min (r .dst) n) p x ≡ stepFor up n r p x
+      → inStretch up (r .len) (min (r .src) n) (min (r .dst) n) p x ≡ stepFor up n r p x
   one-stretch way p x = go (ltb p n) (ltb p (r .src)) (ltb p (r .dst)) refl refl refl
     where
       from : ℕ
@@ -145,31 +145,31 @@ module _ (up : Bool) (n : ℕ) (r : Row) where
           → ltb p n ≡ on
           → ltb p (r .src) ≡ before
           → ltb p (r .dst) ≡ short
-          → inStretch up from to p x ≡ stepFor up n r p x
+          → inStretch up (r .len) from to p x ≡ stepFor up n r p x
       go false before short e f g =
           let past = ltb-false p n e in
-          stretch-above up from to p x (omega arith) ∙ sym (off-ring p x past)
+          stretch-above up (r .len) from to p x (omega arith) ∙ sym (off-ring p x past)
       go true true short e f g =
           let less = ltb-true p (r .src) f in
           let here = ltb-true p n e in
-          stretch-below up from to p x (omega arith)
+          stretch-below up (r .len) from to p x (omega arith)
           ∙ sym (on-way p x here false (rw (lt-ltb (r .src) (r .dst) way, lt-leb (r .src) p less)))
       go true false true e f g =
           let more = ltb-false p (r .src) f in
           let less = ltb-true p (r .dst) g in
           let here = ltb-true p n e in
-          stretch-in up from to p x (omega arith) (omega arith)
+          stretch-in up (r .len) from to p x (omega arith) (omega arith)
           ∙ sym (on-way p x here true (rw (lt-ltb (r .src) (r .dst) way, le-leb (r .src) p more, g)))
       go true false false e f g =
           let more = ltb-false p (r .src) f in
           let past = ltb-false p (r .dst) g in
           let here = ltb-true p n e in
-          stretch-above up from to p x (omega arith)
+          stretch-above up (r .len) from to p x (omega arith)
           ∙ sym (on-way p x here false (rw (lt-ltb (r .src) (r .dst) way, le-leb (r .src) p more, g)))
 
   pub two-stretches : r .dst ≤ r .src
       → (p x : ℕ)
-      → inStretch up 0 (min (r .dst) n) p (inStretch up (min (r .src) n) n p x) ≡ stepFor up n r p x
+      → inStretch up (r .len) 0 (min (r .dst) n) p (inStretch up (r .len) (min (r .src) n) n p x) ≡ stepFor up n r p x
   two-stretches way p x = go (ltb p n) (ltb p (r .src)) (ltb p (r .dst)) refl refl refl
     where
       from : ℕ
@@ -182,26 +182,28 @@ module _ (up : Bool) (n : ℕ) (r : Row) where
           → ltb p n ≡ on
           → ltb p (r .src) ≡ before
           → ltb p (r .dst) ≡ short
-          → inStretch up 0 to p (inStretch up from n p x) ≡ stepFor up n r p x
+          → inStretch up (r .len) 0 to p (inStretch up (r .len) from n p x) ≡ stepFor up n r p x
       go false before short e f g =
           let past = ltb-false p n e in
-          stretch-above up 0 to p _ (omega arith) ∙ stretch-above up from n p x past ∙ sym (off-ring p x past)
+          stretch-above up (r .len) 0 to p _ (omega arith) ∙ stretch-above up (r .len) from n p x past
+          ∙ sym (off-ring p x past)
       go true true true e f g =
           let less = ltb-true p (r .dst) g in
           let early = ltb-true p (r .src) f in
           let here = ltb-true p n e in
-          rw (stretch-below up from n p x (omega arith)) (stretch-in up 0 to p x (omega arith) (omega arith))
+          rw (stretch-below up (r .len) from n p x (omega arith))
+          (stretch-in up (r .len) 0 to p x (omega arith) (omega arith))
           ∙ sym (on-way p x here true (rw (le-ltb (r .src) (r .dst) way, lt-leb (r .src) p early, g)))
       go true true false e f g =
           let past = ltb-false p (r .dst) g in
           let early = ltb-true p (r .src) f in
           let here = ltb-true p n e in
-          stretch-above up 0 to p _ (omega arith) ∙ stretch-below up from n p x (omega arith)
+          stretch-above up (r .len) 0 to p _ (omega arith) ∙ stretch-below up (r .len) from n p x (omega arith)
           ∙ sym (on-way p x here false (rw (le-ltb (r .src) (r .dst) way, lt-leb (r .src) p early, g)))
       go true false short e f g =
           let more = ltb-false p (r .src) f in
           let here = ltb-true p n e in
-          stretch-above up 0 to p _ (omega arith) ∙ stretch-in up from n p x (omega arith) here
+          stretch-above up (r .len) 0 to p _ (omega arith) ∙ stretch-in up (r .len) from n p x (omega arith) here
           ∙ sym (on-way p x here true (rw (le-ltb (r .src) (r .dst) way, le-leb (r .src) p more)))
 
 -- ---- the counts of a way, in one list of all links
@@ -214,41 +216,41 @@ module _ (up : Bool) (n : ℕ) (r : Row) (l : List ℕ) (ring : n ≤ most-links
       → from ≡ min (r .src) n
       → to ≡ min (r .dst) n
       → r .src < r .dst
-      → ys ≡ map (stepBy up) (midOf from (to - from) l)
+      → ys ≡ map (stepBy up (r .len)) (midOf from (to - from) l)
       → putMid from (to - from) l ys ≡ steppedWay up n r l
   unfolding steppedWay
   way-ahead {from} {to} {ys} f t way so =
-      part-stepped up from to l ys (omega arith) (omega arith) so
-      ∙ rw long (build-ext most-links (λ p. inStretch up from to p (getD l p 0)) stepped one)
+      part-stepped up (r .len) from to l ys (omega arith) (omega arith) so
+      ∙ rw long (build-ext most-links (λ p. inStretch up (r .len) from to p (getD l p 0)) stepped one)
     where
-      one : (p : ℕ) → p < most-links → inStretch up from to p (getD l p 0) ≡ stepped p
+      one : (p : ℕ) → p < most-links → inStretch up (r .len) from to p (getD l p 0) ≡ stepped p
       one p h = rw (f, t) (one-stretch up n r way p (getD l p 0))
 
   pub way-round : {from to : ℕ} {ys zs : List ℕ}
       → from ≡ min (r .src) n
       → to ≡ min (r .dst) n
       → r .dst ≤ r .src
-      → ys ≡ map (stepBy up) (midOf from (n - from) l)
-      → zs ≡ map (stepBy up) (midOf 0 (to - 0) (putMid from (n - from) l ys))
+      → ys ≡ map (stepBy up (r .len)) (midOf from (n - from) l)
+      → zs ≡ map (stepBy up (r .len)) (midOf 0 (to - 0) (putMid from (n - from) l ys))
       → putMid 0 (to - 0) (putMid from (n - from) l ys) zs ≡ steppedWay up n r l
   unfolding steppedWay
   way-round {from} {to} {ys} {zs} f t way so last =
-      part-stepped up 0 to l′ zs (omega arith) (omega (arith, whole)) last
-      ∙ rw whole (build-ext most-links (λ p. inStretch up 0 to p (getD l′ p 0)) stepped both)
+      part-stepped up (r .len) 0 to l′ zs (omega arith) (omega (arith, whole)) last
+      ∙ rw whole (build-ext most-links (λ p. inStretch up (r .len) 0 to p (getD l′ p 0)) stepped both)
     where
       l′ : List ℕ
       l′ = putMid from (n - from) l ys
 
       upper : ℕ → ℕ
-      upper p = inStretch up from n p (getD l p 0)
+      upper p = inStretch up (r .len) from n p (getD l p 0)
 
       first : l′ ≡ build most-links upper
-      first = part-stepped up from n l ys (omega arith) (omega arith) so ∙ rw long
+      first = part-stepped up (r .len) from n l ys (omega arith) (omega arith) so ∙ rw long
 
       whole : length l′ ≡ most-links
       whole = ap length first ∙ length-build most-links upper
 
-      both : (p : ℕ) → p < most-links → inStretch up 0 to p (getD l′ p 0) ≡ stepped p
+      both : (p : ℕ) → p < most-links → inStretch up (r .len) 0 to p (getD l′ p 0) ≡ stepped p
       both p h =
           let entry : getD l′ p 0 ≡ upper p =
           ap (λ (m : List ℕ). getD m p 0) first ∙ getD-build most-links upper p 0 h

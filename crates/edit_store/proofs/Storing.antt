@@ -15,9 +15,9 @@ use lib.Seq.{take-at, drop-at, drop-drop, length-take-le, drop-cons}
 use Rattle.lists.specs.Lists.{build}
 use Rattle.lists.proofs.Build.{length-build, build-ext, getD-build}
 use Rattle.table.specs.declared.Row.{Row}
-use Rattle.table.specs.Table.{most-rows}
+use Rattle.table.specs.Table.{most-rows, rowNumbers}
 use Rattle.table.specs.Steps.{none}
-use Rattle.area.specs.Area.{most-links, row-width, loads-begin, rows-begin, rowPlace, room, rowNumbers, numbers, laid}
+use Rattle.area.specs.Area.{most-links, row-width, loads-begin, rows-begin, rowPlace, room, numbers, laid}
 use Rattle.area.specs.Area.{nodesIn, countIn, loadIn, rowIn, rowsIn}
 use Rattle.area.proofs.RowNumbers.{numbers-long, numbers-cons, numbers-parted, numbers-later}
 use Rattle.area.proofs.Areas.{head, head-long, laid-is, laid-again, rows-counted}
@@ -155,7 +155,7 @@ module _ (n : ℕ) (f : ℕ → ℕ) (rows : List Row) (behind : List ℕ) where
             ≡ numbers rows ++ (ys ++ drop (at + row-width - at) behind)
         joined =
             let wide : at + row-width - at ≡ row-width = omega arith in
-            rw (wide, so, numbers-parted rows (r ∷ []) (drop row-width behind), append-nil (rowNumbers r))
+            rw (wide, so, numbers-parted rows (r ∷ []) (drop row-width behind))
 
     -- A row put in the place of row i.
     pub row-changed : (i at : ℕ) (ys : List ℕ)

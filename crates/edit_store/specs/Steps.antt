@@ -6,8 +6,8 @@ use mathlib.Core.List.{List, _++_}
 use lib.ListN.{length, getD, take, drop}
 use Rattle.lists.specs.Lists.{build}
 use Rattle.table.specs.declared.Row.{Row}
-use Rattle.table.specs.Table.{most-rows}
-use Rattle.area.specs.Area.{most-links, loads-begin, rows-begin, rowPlace, room, rowNumbers, nodesIn, countIn}
+use Rattle.table.specs.Table.{most-rows, rowNumbers}
+use Rattle.area.specs.Area.{most-links, loads-begin, rows-begin, rowPlace, room, nodesIn, countIn}
 use Rattle.edit_store.specs.Store.{stepFor}
 
 -- The counts of all links after the links of a row's way are stepped.

@@ -1,9 +1,8 @@
 -- What an edit that nothing is wrong with makes of an area: document 02, Ask 2. What stands where in an area is said in
 -- crates/area/specs/Area.antt.
-use Prim.Native.Nat.{ℕ, suc, _-_}
+use Prim.Native.Nat.{ℕ, suc, _+_, _-_, min}
 use mathlib.Core.Bool.{Bool, true, false, cond}
 use mathlib.Core.List.{List, [], _∷_, _++_}
-use lib.Dec.{eqb}
 use lib.ListN.{take, drop, replicate}
 use Rattle.table.specs.declared.Row.{Row}
 use Rattle.area.specs.Area.{row-width, rowPlace, crosses, laid, nodesIn, countIn, loadIn, rowIn, rowsIn}
@@ -15,14 +14,14 @@ rowsAfter rows (Add r) = rows ++ (r ∷ [])
 rowsAfter rows (Change k r) = take (k - 1) rows ++ (r ∷ drop k rows)
 rowsAfter rows (Remove k) = take (k - 1) rows ++ drop k rows
 
--- A count one higher or one lower, held at 65,535 and at 0; the counts of an open table never come there.
-unfoldable pub stepBy : (up : Bool) → ℕ → ℕ
-stepBy true x = cond (eqb x 65535) x (suc x)
-stepBy false x = x - 1
+-- A count x higher or lower by a step, held at 65,535 and at 0; the counts of an open table never come there.
+unfoldable pub stepBy : (up : Bool) (step x : ℕ) → ℕ
+stepBy true step x = min (x + step) 65535
+stepBy false step x = x - step
 
--- The count x of link p after row r is counted in or out.
+-- The count x of link p after the cells of row r are counted in or out.
 unfoldable pub stepFor : (up : Bool) → ℕ → Row → (p x : ℕ) → ℕ
-stepFor up n r p x = cond (crosses n r p) (stepBy up x) x
+stepFor up n r p x = cond (crosses n r p) (stepBy up (r .len) x) x
 
 -- The count of link p after an edit that is good: the old row is counted out, the new one in.
 unfoldable pub loadAfter : List ℕ → Edit → ℕ → ℕ

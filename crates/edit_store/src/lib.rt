@@ -3,8 +3,8 @@ ghost use mathlib.Core.Path.{_≡_};
 ghost use mathlib.Core.List.{_++_, map};
 ghost use Prim.Native.Nat.{_≤_, _<_};
 ghost use lib.ListN.{length, drop, replicate};
-ghost use Rattle.table.specs.Table.{most-rows};
-ghost use Rattle.area.specs.Area.{most-links, row-width, room, rowNumbers};
+ghost use Rattle.table.specs.Table.{most-rows, rowNumbers};
+ghost use Rattle.area.specs.Area.{most-links, row-width, room};
 ghost use Rattle.edit_judge.specs.Judge.{Add, Change, Remove};
 ghost use Rattle.edit_store.specs.Store.{stepBy, edited};
 ghost use Rattle.edit_store.specs.Steps.{Roomy, There, steppedWay, wayStepped, rowPut};
@@ -16,34 +16,34 @@ use lists::clear;
 use lists::lower;
 use table::Row;
 
-// A count one higher or one lower, held where a number ends.
-pub fn stepped(count: u16, up: bool) -> u16
-    ensures { λ r. ⌜ r ≡ stepBy up count ⌝ }
+// A count higher or lower by a step, held where a number ends.
+pub fn stepped(count: u16, step: u16, up: bool) -> u16
+    ensures { λ r. ⌜ r ≡ stepBy up step count ⌝ }
 {
     if up {
-        if count == 65535 {
-            return count;
+        if 65535 - count < step {
+            return 65535;
         }
-        return count + 1;
+        return count + step;
     }
-    if count == 0 {
-        return count;
+    if count < step {
+        return 0;
     }
-    count - 1
+    count - step
 }
 
 // Steps the count of every link of a stretch.
-fn step_all(part: &mut [u16], up: bool)
-    ensures { λ _. ⌜ now (part .exit) ≡ map (stepBy up) (now (part .entry)) ⌝ }
+fn step_all(part: &mut [u16], step: u16, up: bool)
+    ensures { λ _. ⌜ now (part .exit) ≡ map (stepBy up step) (now (part .entry)) ⌝ }
 {
     let mut i = 0;
     while i < part.len() {
-        part[i] = stepped(part[i], up);
+        part[i] = stepped(part[i], step, up);
         i += 1;
     }
 }
 
-// Steps the counts of the links on a row's way: one stretch of links, or two where it passes node 0.
+// Steps the counts of the links on a row's way by its cells: one stretch of links, or two where it passes node 0.
 fn step_way(nodes: u16, row: Row, up: bool, load: &mut [u16])
     requires { ⌜ (nodes ≤ most-links) × (length (now load) ≡ most-links) ⌝ }
     ensures { λ _. ⌜ now (load .exit) ≡ steppedWay up nodes row (now (load .entry)) ⌝ }
@@ -52,10 +52,10 @@ fn step_way(nodes: u16, row: Row, up: bool, load: &mut [u16])
     let from = lower(row.src as usize, end);
     let to = lower(row.dst as usize, end);
     if row.src < row.dst {
-        step_all(&mut load[from..to], up);
+        step_all(&mut load[from..to], row.len, up);
     } else {
-        step_all(&mut load[from..end], up);
-        step_all(&mut load[0..to], up);
+        step_all(&mut load[from..end], row.len, up);
+        step_all(&mut load[0..to], row.len, up);
     }
 }
 
@@ -74,7 +74,8 @@ fn put_numbers(part: &mut [u16], row: Row)
 {
     part[0] = row.src;
     part[1] = row.dst;
-    part[2] = row.due;
+    part[2] = row.len;
+    part[3] = row.due;
 }
 
 // Puts a row at a place of the table, counted from 0.

@@ -63,8 +63,9 @@ flatVerdict (NotGood r) = record { number = r .number; row = r .row; slot = r .s
 
 -- A row that was asked for, as plain numbers: a refusal shows no row.
 unfoldable pub flatEntry : Entry → RowAnswer
-flatEntry (Shown r) = record { number = 0; row = 0; slot = 0; src = r .src; dst = r .dst; due = r .due }
-flatEntry (NotShown r) = record { number = r .number; row = r .row; slot = r .slot .0; src = 0; dst = 0; due = 0 }
+flatEntry (Shown r) = record { number = 0; row = 0; slot = 0; src = r .src; dst = r .dst; len = r .len; due = r .due }
+flatEntry (NotShown r) =
+    record { number = r .number; row = r .row; slot = r .slot .0; src = 0; dst = 0; len = 0; due = 0 }
 
 -- A link and its load as plain numbers.
 unfoldable pub flatLink : LinkLoad → LinkAnswer

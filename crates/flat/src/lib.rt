@@ -58,6 +58,7 @@ pub struct RowAnswer {
     pub slot: u16,
     pub src: u16,
     pub dst: u16,
+    pub len: u16,
     pub due: u16,
 }
 
@@ -168,6 +169,7 @@ pub fn flat_entry(a: Entry) -> RowAnswer
             slot: 0,
             src: row.src,
             dst: row.dst,
+            len: row.len,
             due: row.due,
         },
         Entry::Refused(refusal) => RowAnswer {
@@ -176,6 +178,7 @@ pub fn flat_entry(a: Entry) -> RowAnswer
             slot: refusal.slot.0,
             src: 0,
             dst: 0,
+            len: 0,
             due: 0,
         },
     }

@@ -115,7 +115,10 @@ columns-stored c i r p f =
       holds-set 512 (c .src) i (r .src) (rs .0 .1) (cs .0),
       (
         holds-set 512 (c .dst) i (r .dst) (rs .1 .0 .1) (cs .1 .0),
-        (holds-set 512 (c .due) i (r .due) (rs .1 .1 .0 .1) (cs .1 .1 .0), tt),
+        (
+          holds-set 512 (c .len) i (r .len) (rs .1 .1 .0 .1) (cs .1 .1 .0),
+          (holds-set 512 (c .due) i (r .due) (rs .1 .1 .1 .0 .1) (cs .1 .1 .1 .0), tt),
+        ),
       ),
     )
 
@@ -126,6 +129,9 @@ row-stored c i p =
       (refl, each-fits (c .src) (cs .0 .0) (cs .0 .1 .1) i),
       (
         (refl, each-fits (c .dst) (cs .1 .0 .0) (cs .1 .0 .1 .1) i),
-        ((refl, each-fits (c .due) (cs .1 .1 .0 .0) (cs .1 .1 .0 .1 .1) i), tt),
+        (
+          (refl, each-fits (c .len) (cs .1 .1 .0 .0) (cs .1 .1 .0 .1 .1) i),
+          ((refl, each-fits (c .due) (cs .1 .1 .1 .0 .0) (cs .1 .1 .1 .0 .1 .1) i), tt),
+        ),
       ),
     )

@@ -16,7 +16,7 @@ use lib.Seq.{ext-getD, getD-take, getD-set-same, getD-set-other, take-all, take-
 use Rattle.lists.specs.Lists.{build}
 use Rattle.table.specs.declared.Row.{Row}
 use Rattle.table.specs.declared.Columns.{Columns}
-use Rattle.table.specs.Table.{destinations, dues}
+use Rattle.table.specs.Table.{destinations, lengths, dues}
 use Rattle.table.specs.Steps.{none, column, columns, listed, sources}
 use Rattle.table.proofs.Rows.{column-at, length-map, rowOf, length-listed}
 
@@ -80,7 +80,7 @@ column-all xs = go (ltb 512 (length xs)) refl
         let m : min (length xs) 512 ≡ length xs = omega arith in
         ap (λ (k : ℕ). column (take k xs)) m ∙ ap column (take-all (length xs) xs (omega arith))
 
--- ---- the three of them
+-- ---- the four of them
 map-take : {A B : Type 0} (f : A → B) (i : ℕ) (xs : List A) → map f (take i xs) ≡ take i (map f xs)
 map-take f zero xs = refl
 map-take f (suc i) [] = refl
@@ -100,21 +100,33 @@ of-all f rows =
 
 -- a row stored at place i
 abbrev pub stored : Columns → ℕ → Row → Columns
-stored c i r = record { src = set (c .src) i (r .src); dst = set (c .dst) i (r .dst); due = set (c .due) i (r .due) }
+stored c i r = record {
+  src = set (c .src) i (r .src);
+  dst = set (c .dst) i (r .dst);
+  len = set (c .len) i (r .len);
+  due = set (c .due) i (r .due);
+}
 
 pub columns-more : (rows : List Row) (i : ℕ) → i < 512
     → columns (take (suc i) rows) ≡ stored (columns (take i rows)) i (getD rows i none)
-unfolding columns sources destinations dues
+unfolding columns sources destinations lengths dues
 columns-more rows i small =
     cc (
       of-more (λ r. r .src) refl rows i small,
       of-more (λ r. r .dst) refl rows i small,
+      of-more (λ r. r .len) refl rows i small,
       of-more (λ r. r .due) refl rows i small,
     )
 
 pub columns-all : (rows : List Row) → columns (take (min (length rows) 512) rows) ≡ columns rows
-unfolding columns sources destinations dues
-columns-all rows = cc (of-all (λ r. r .src) rows, of-all (λ r. r .dst) rows, of-all (λ r. r .due) rows)
+unfolding columns sources destinations lengths dues
+columns-all rows =
+    cc (
+      of-all (λ r. r .src) rows,
+      of-all (λ r. r .dst) rows,
+      of-all (λ r. r .len) rows,
+      of-all (λ r. r .due) rows,
+    )
 
 -- ---- rows written to the front of a list
 build-next : (n : ℕ) (f : ℕ → Row) (rest : List Row) → build (suc n) f ++ rest ≡ build n f ++ f n ∷ rest

@@ -24,6 +24,7 @@ pub fn blank() -> Columns
     Columns {
         src: z,
         dst: z,
+        len: z,
         due: z,
     }
 }
@@ -46,6 +47,7 @@ pub fn load(rows: &[Row]) -> Columns
         let r = row_at(rows, i);
         t.src[i] = r.src;
         t.dst[i] = r.dst;
+        t.len[i] = r.len;
         t.due[i] = r.due;
         i += 1;
     }
@@ -62,6 +64,7 @@ pub fn store_rows(rows: &mut [Row], columns: Columns, count: usize)
         let r = Row {
             src: columns.src[i],
             dst: columns.dst[i],
+            len: columns.len[i],
             due: columns.due[i],
         };
         rows[i] = r;

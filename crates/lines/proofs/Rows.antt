@@ -13,9 +13,9 @@ use native.Mathlib.Omega.{arith}
 use borrow.Author.Tests.{lt-ltb, le-ltb}
 use lib.ListN.{length, getD, set, take, drop, length-set, length-drop, length-append, drop-of-length-le}
 use lib.Seq.{drop-cons, take-suc-set, take-all, append-snoc}
-use Rattle.text.specs.Text.{line-feed, row-keys, rowBy, rowText, lineGood, lineRest, valuesAt, behindLines, wrongLine}
+use Rattle.text.specs.Text.{line-feed, row-keys, rowText, lineGood, lineRest, valuesAt, behindLines, wrongLine}
 use Rattle.text.specs.Text.{rowAt}
-use Rattle.text.proofs.RowLaws.{Right, row-stands}
+use Rattle.text.proofs.RowLaws.{made, Right, row-stands}
 use Rattle.lines.proofs.Seen.{Seen}
 use Rattle.lines.specs.declared.RowSeen.the-variants.{Whole, Broken}
 use Rattle.lines.specs.Items.{rightLines, rowSeen}
@@ -112,12 +112,12 @@ module _ {text : List ℕ} {at : ℕ} {vs : List ℕ} {next j : ℕ} (k : Reache
   unfolding rowSeen
   answers-broken more e = rw (stopped k more e, lt-ltb j (length row-keys) more)
 
-  pub answers-whole : length row-keys ≤ j → at ≤ length text → Whole (rowBy vs) next ≡ rowSeen text at
+  pub answers-whole : length row-keys ≤ j → at ≤ length text → Whole (made vs) next ≡ rowSeen text at
   unfolding rowSeen rowAt
   answers-whole done h =
       let from = drop at text in
       let right = right-all row-keys from (all-right k done) in
-      let row : rowBy vs ≡ rowAt from = ap rowBy (sym (all-said k done)) in
+      let row : made vs ≡ rowAt from = ap made (sym (all-said k done)) in
       let stands = ap length (row-stands from right)
       ∙ length-append (rowText (rowAt from)) (behindLines row-keys from) in
       let rest : length (behindLines row-keys from) ≡ length text - next = ap length (all-past k done)

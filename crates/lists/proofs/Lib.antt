@@ -4,3 +4,4 @@ pub mod Filling
 pub mod FirstPlace
 pub mod Fronts
 pub mod Truth
+pub mod Sums

@@ -21,6 +21,8 @@ use Rattle.optimal.proofs.Tests.{
   legal-decided,
   meets-decided,
   schedule-decided,
+  Says,
+  as-decided,
 }
 
 -- A row as document 01 writes it, source > destination / due slot.
@@ -86,16 +88,6 @@ cases =
     -- the empty list for the empty table
     ∷ case 4 [] [] true true true
     ∷ []
-
--- What is said of a statement: that it holds, or that it does not.
-Says : Bool → Type 0 → Type 0
-Says true P = P
-Says false P = P → ⊥
-
-as-decided : {P : Type 0} (d : Dec P) → Says (decide d) P
-unfolding Says decide
-as-decided (yes p) = p
-as-decided (no p) = p
 
 -- Each case of a list is as its last three fields say, by `Legal`, `Meets` and `Schedule` themselves.
 AsSaid : Case → Type 0

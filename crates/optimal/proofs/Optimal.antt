@@ -1,5 +1,6 @@
 -- The rule of least slack is best: it finds a legal schedule that meets the table wherever there is one.
---     never-late            where some schedule meets the table, the rule's run is never late
+--     never-late-beside     where some run of slots, whoever named them, is in time, the rule's run is never late
+--     never-late            so it is where some schedule meets the table
 --     plan-is-schedule      the plan of a run that ends with no late row is such a schedule
 --     late-iff-none         so a run ends with a late row just where there is no such schedule
 -- Assumes nothing.
@@ -76,48 +77,50 @@ module _ (T : Traffic) where
       none : (i : ℕ) → i < length left → (k + linksFrom T p i ≤ getD left i 0) × (dueOf T i < b + linksFrom T p i) → ⊥
       none i known m = omega (arith, done i known, ring-way T left ring .positive p i inside known)
 
--- ---- a schedule that meets the table
+-- ---- a run that is in time, whoever named its slots
 
-module _ (T : Traffic) (start schedule : List ℕ) where
-  left-length : (t : ℕ) → length (leftAt T start schedule t) ≡ length start
-  unfolding leftAt
-  left-length = run-length T (leftAt T start schedule) (namedIn T schedule) (λ t. refl)
-
-  left-on-ring : OnRing T start → (t : ℕ) → OnRing T (leftAt T start schedule t)
-  unfolding leftAt
-  left-on-ring = run-on-ring T (leftAt T start schedule) (namedIn T schedule) (λ t. refl)
-
-  left-less : (i : ℕ) → i < length start → (t s : ℕ) → t ≤ s
-      → getD (leftAt T start schedule s) i 0 ≤ getD (leftAt T start schedule t) i 0
-  unfolding leftAt
-  left-less = run-less T (leftAt T start schedule) (namedIn T schedule) (λ t. refl)
+module _ (T : Traffic) (state slot : ℕ → List ℕ) (next : (t : ℕ) → state (suc t) ≡ moved T (slot t) (state t)) where
+  -- Every row is delivered at some instant no later than its due slot.
+  abbrev pub InTime : Type 0
+  InTime = (i : ℕ) → i < length (state 0) → (t : ℕ) × (t ≤ getD (T .due) i 0) × (getD (state t) i 0 ≡ 0)
 
   -- A row that is under way at instant t is delivered later, and no later than its due slot.
-  due-later : Meets T start schedule → (i t : ℕ) → i < length start
-      → 0 < getD (leftAt T start schedule t) i 0 → t < getD (T .due) i 0
-  unfolding Meets
-  due-later meets i t known under-way =
-      let met = meets i known in
-      by-contra (suc t) (getD (T .due) i 0) (λ late. omega (arith, left-less i known (met .0) t (omega arith)))
+  due-later : InTime → (i t : ℕ) → i < length (state 0) → 0 < getD (state t) i 0 → t < getD (T .due) i 0
+  due-later in-time i t known under-way =
+      let met = in-time i known in
+      by-contra (suc t) (getD (T .due) i 0) (λ late.
+      omega (arith, run-less T state slot next i known (met .0) t (omega arith)))
 
-  -- The window holds at each instant of the schedule, from its end backward.
-  window-of-schedule : OnRing T start → (slots : ℕ) → ((i : ℕ) → i < length start → getD (T .due) i 0 ≤ slots)
-      → Meets T start schedule → (m t : ℕ) → t + m ≡ slots → RingWindow T t (leftAt T start schedule t)
-  unfolding leftAt
-  window-of-schedule ring slots dues meets zero t e =
-      window-delivered T t (leftAt T start schedule t) (left-on-ring ring t)
-      (λ i l. delivered i (omega (arith, left-length t)))
+  -- The window holds at each instant of the run, from its end backward.
+  pub window-of-run : OnRing T (state 0) → (slots : ℕ)
+      → ((i : ℕ) → i < length (state 0) → getD (T .due) i 0 ≤ slots) → InTime
+      → (m t : ℕ) → t + m ≡ slots → RingWindow T t (state t)
+  window-of-run ring slots dues in-time zero t e =
+      window-delivered T t (state t) (run-on-ring T state slot next ring t)
+      (λ i l. delivered i (omega (arith, run-length T state slot next t)))
     where
-      delivered : (i : ℕ) → i < length start → getD (leftAt T start schedule t) i 0 ≡ 0
-      delivered i known = go (decLt 0 (getD (leftAt T start schedule t) i 0))
+      delivered : (i : ℕ) → i < length (state 0) → getD (state t) i 0 ≡ 0
+      delivered i known = go (decLt 0 (getD (state t) i 0))
         where
-          go : Dec (0 < getD (leftAt T start schedule t) i 0) → getD (leftAt T start schedule t) i 0 ≡ 0
-          go (yes d) = absurd (omega (arith, due-later meets i t known d, dues i known))
+          go : Dec (0 < getD (state t) i 0) → getD (state t) i 0 ≡ 0
+          go (yes d) = absurd (omega (arith, due-later in-time i t known d, dues i known))
           go (no d) = omega arith
-  window-of-schedule ring slots dues meets (suc m) t e =
-      ring-window-before T t (namedIn T schedule t) (leftAt T start schedule t) (left-on-ring ring t)
-      (window-of-schedule ring slots dues meets m (suc t) (omega arith))
-      (λ i l under-way done. due-later meets i t (omega (arith, left-length t)) under-way)
+  window-of-run ring slots dues in-time (suc m) t e =
+      ring-window-before T t (slot t) (state t) (run-on-ring T state slot next ring t)
+      (rw (next t) at (window-of-run ring slots dues in-time m (suc t) (omega arith)))
+      (λ i l under-way done. due-later in-time i t (omega (arith, run-length T state slot next t)) under-way)
+
+  -- Where some run from a state is in time, no row of the rule's run from there is late at any instant.
+  pub never-late-beside : OnRing T (state 0) → (slots : ℕ)
+      → ((i : ℕ) → i < length (state 0) → getD (T .due) i 0 ≤ slots) → InTime
+      → (t : ℕ) → lateRow T t (stateAt T (state 0) t) ≡ 0
+  unfolding stateAt
+  never-late-beside ring slots dues in-time t =
+      window-not-late T t (stateAt T (state 0) t) (state-on-ring T (state 0) ring t) (windows t)
+    where
+      windows : (t : ℕ) → RingWindow T t (stateAt T (state 0) t)
+      windows zero = window-of-run ring slots dues in-time slots 0 (omega arith)
+      windows (suc t) = ring-window-after T t (stateAt T (state 0) t) (state-on-ring T (state 0) ring t) (windows t)
 
 -- ---- the theorems
 
@@ -125,12 +128,11 @@ module _ {T : Traffic} {start : List ℕ} {slots : ℕ}
     (ring : OnRing T start) (dues : (i : ℕ) → i < length start → getD (T .due) i 0 ≤ slots) where
   -- Where some schedule meets the table, no row of the rule's run is late at any instant.
   pub never-late : {schedule : List ℕ} → Schedule T start slots schedule → (t : ℕ) → lateRow T t (stateAt T start t) ≡ 0
-  unfolding leftAt stateAt
-  never-late {schedule} meeting t = window-not-late T t (stateAt T start t) (state-on-ring T start ring t) (windows t)
-    where
-      windows : (t : ℕ) → RingWindow T t (stateAt T start t)
-      windows zero = window-of-schedule T start schedule ring slots dues (meeting .meets) slots 0 (omega arith)
-      windows (suc t) = ring-window-after T t (stateAt T start t) (state-on-ring T start ring t) (windows t)
+  unfolding leftAt Meets
+  never-late {schedule} meeting =
+      never-late-beside T (leftAt T start schedule) (namedIn T schedule) (λ t. refl) ring slots dues (λ i known.
+      let met = meeting .meets i known in
+      (met .0, omega arith, omega arith))
 
   ended : Ended T start slots (stopOf T start slots)
   ended = stop-first T start slots

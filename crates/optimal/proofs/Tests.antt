@@ -3,6 +3,7 @@
 --     legal-decided, legalb, legalb-iff      of `Legal`
 --     meets-decided, meetsb, meetsb-iff      of `Meets`
 --     schedule-decided                       of `Schedule`, which has both
+--     Says, as-decided                       what is computed of a statement holds of it
 -- Each decision is put together from the parts of the definition as it stands, whatever numbers these compare.
 -- Assumes nothing.
 use mathlib.Core.Path.{_≡_, refl}
@@ -10,7 +11,7 @@ use mathlib.Core.Logic.{_↔_}
 use Prim.Native.Nat.{ℕ, zero, suc, _<_}
 use native.Mathlib.Omega.{arith}
 use native.Mathlib.Decide.{ℕ-discrete, decLe, decLt}
-use mathlib.Core.Bool.{Bool, true, decide, decide-iff}
+use mathlib.Core.Bool.{Bool, true, false, decide, decide-iff}
 use mathlib.Core.List.{List}
 use lib.ListN.{length, getD}
 use Rattle.slack.specs.Slack.{Traffic}
@@ -57,6 +58,16 @@ unfoldable pub some-below : {P Q : ℕ → Type 0} (k : ℕ) → ((i : ℕ) → 
 some-below k small d e =
     alike (λ h. (h .0, h .2 .0, h .2 .1)) (λ h. (h .0, small (h .0) (h .1), (h .1, h .2)))
     (find k (λ i. both-decided (d i) (e i)))
+
+-- What is said of a statement: that it holds, or that it does not.
+unfoldable pub Says : Bool → Type 0 → Type 0
+Says true P = P
+Says false P = P → ⊥
+
+pub as-decided : {P : Type 0} (d : Dec P) → Says (decide d) P
+unfolding Says decide
+as-decided (yes p) = p
+as-decided (no p) = p
 
 module _ (T : Traffic) (start : List ℕ) where
   unfoldable pub legal-decided : (slots : ℕ) (schedule : List ℕ) → Dec (Legal T start slots schedule)

@@ -16,7 +16,8 @@ use Rattle.lists.specs.Lists.{firstPlace}
 use Rattle.table.specs.declared.Row.{Row}
 use Rattle.table.specs.declared.Verdict.{Verdict}
 use Rattle.table.specs.declared.Verdict.the-variants.{Good, Refused}
-use Rattle.table.specs.Table.{most-rows, latest-due, rowRefusal, judgeRows, judge}
+use Rattle.table.specs.Table.{most-rows, latest-due, most-length, most-cells, rowRefusal, judgeRows, cellsIn, afterRows}
+use Rattle.table.specs.Table.{judgeAll, judge}
 use Rattle.planner.specs.declared.Answer.{Answer}
 use Rattle.planner.specs.Planner.{planRoom, ending, answerToRows, afterVerdict, theAnswer}
 use Rattle.text.specs.declared.Reading.{Reading}
@@ -55,24 +56,32 @@ flat-verdict-told Good t = t
 flat-verdict-told (Refused r) t = t
 
 -- ---- planning
--- A row's refusal, that of the first bad row, and that of a table.
+-- A row's refusal, that of the first bad row, that of too many cells, and that of a table.
 row-told : (n : ℕ) (r : Row) → Told (rowRefusal n r)
 unfolding rowRefusal isIn firstPlace
 row-told n r =
     either Told (leb n (r .src)) refl
     (either Told (leb n (r .dst)) refl
-    (either Told (eqb (r .src) (r .dst)) refl (either Told (eqb (r .due) 0 || ltb latest-due (r .due)) refl refl)))
+    (either Told (eqb (r .src) (r .dst)) refl
+    (either Told (eqb (r .len) 0 || ltb most-length (r .len)) refl
+    (either Told (eqb (r .due) 0 || ltb latest-due (r .due)) refl refl))))
 
 rows-told : (n : ℕ) (rows : List Row) (above : ℕ) → ToldVerdict (judgeRows n rows above)
 unfolding judgeRows ToldVerdict isIn firstPlace
 rows-told n [] above = refl
 rows-told n (r ∷ rows) above = either ToldVerdict (eqb (rowRefusal n r) 0) (rows-told n rows (suc above)) (row-told n r)
 
+cells-told : (v : Verdict) (cells : ℕ) → ToldVerdict v → ToldVerdict (afterRows v cells)
+unfolding afterRows ToldVerdict isIn firstPlace
+cells-told Good cells t = either ToldVerdict (ltb most-cells cells) refl refl
+cells-told (Refused r) cells t = t
+
 table-told : (n : ℕ) (rows : List Row) → ToldVerdict (judge n rows)
-unfolding judge ToldVerdict isIn firstPlace
+unfolding judge judgeAll ToldVerdict isIn firstPlace
 table-told n rows =
     either ToldVerdict (ltb n 2 || ltb 32 n) refl
-    (either ToldVerdict (ltb most-rows (length rows)) refl (rows-told n rows 0))
+    (either ToldVerdict (ltb most-rows (length rows)) refl
+    (cells-told (judgeRows n rows 0) (cellsIn rows) (rows-told n rows 0)))
 
 -- The answer to a table.
 after-told : (v : Verdict) (next : Answer) → ToldVerdict v → ToldAnswer next → ToldAnswer (afterVerdict v next)

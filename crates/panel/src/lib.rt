@@ -162,7 +162,7 @@ pub extern "C" fn garboardle_row_of(table: &Area, number: u16) -> RowAnswer
     flat_entry(edit::row_of(table, number))
 }
 
-// How many rows of an open table cross a link.
+// How many cells of an open table cross a link.
 #[no_mangle]
 pub extern "C" fn garboardle_link_load(table: &Area, link: u16) -> u16
     ensures { λ r. ⌜ r ≡ getD (loadsIn (now (table .entry))) link 0 ⌝ }

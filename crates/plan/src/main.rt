@@ -6,10 +6,10 @@ use libc::STDIN_FILENO;
 use libc::STDOUT_FILENO;
 
 // Room for the text: a longer input is read no further, since the rest changes no answer.
-fn text_room() -> [u8; 16384]
+fn text_room() -> [u8; 24576]
     ensures { λ r. ⌜ input-most ≡ length r ⌝ }
 {
-    [0u8; 16384]
+    [0u8; 24576]
 }
 
 // Room for the longest output.

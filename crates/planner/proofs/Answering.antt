@@ -7,53 +7,55 @@ use mathlib.Core.List.{List}
 use borrow.Author.Tests.{ne-eqb}
 use lib.Dec.{eqb}
 use lib.ListN.{length, replicate}
-use Rattle.lists.specs.Lists.{total, largest}
+use Rattle.lists.specs.Lists.{largest}
 use Rattle.lists.proofs.Build.{length-build}
 use Rattle.table.specs.Table.{refuse}
 use Rattle.slack.specs.declared.Stop.{Stop}
-use Rattle.slack.specs.Slack.{Traffic, planOf, arrivalsOf}
-use Rattle.run.specs.Steps.{Ran}
+use Rattle.cells.specs.Rows.{Freight}
+use Rattle.cells.specs.Cells.{rowPlan, rowArrivals, ofLastCells}
+use Rattle.rows.specs.Steps.{RanRows}
 use Rattle.planner.specs.declared.Summary.{Summary}
 use Rattle.planner.specs.declared.Answer.the-variants.{Accepted, Refused}
 use Rattle.planner.specs.Planner.{summaryOf}
-use Rattle.planner.specs.Steps.{Runnable, RunPlanned, answerToRun}
+use Rattle.planner.specs.Steps.{crossed, RunPlanned, answerToRun}
 
-pub arrivals-long : (T : Traffic) (start : List ℕ) (slots : ℕ) → length (arrivalsOf T start slots) ≡ length start
-unfolding arrivalsOf
-arrivals-long T start slots = length-build (length start) _
+pub arrivals-long : (F : Freight) (slots : ℕ) → length (rowArrivals F slots) ≡ length (F .len)
+unfolding rowArrivals ofLastCells
+arrivals-long F slots = length-build (length (F .len)) _
 
-module _ {T : Traffic} {start plan₀ arrivals₀ left′ plan′ arrivals′ : List ℕ} {stop : Stop}
-    (k : Runnable T start plan₀ arrivals₀) (ran : Ran T start (length plan₀) stop left′ plan′ arrivals′) where
+module _ {F : Freight} {room : ℕ} {plan′ arrivals′ : List ℕ} {stop : Stop}
+    (ran : RanRows F room stop plan′ arrivals′) where
   abbrev last : ℕ
-  last = largest (T .due)
+  last = largest (F .due)
 
   -- the areas do not depend on the answer
-  areas : (answer : _) → answer ≡ answerToRun T start stop → RunPlanned T start (length plan₀) answer plan′ arrivals′
+  areas : (answer : _) → answer ≡ answerToRun F stop → RunPlanned F room answer plan′ arrivals′
   areas answer e =
       record {
-        answers = e ∙ ap (answerToRun T start) (ran .stops);
+        answers = e ∙ ap (answerToRun F) (ran .stops);
         carries =
-            ran .carries ∙ ap (λ s. cond (eqb (s .row) 0) (planOf T start last) (replicate (length plan₀) 0))
-            (ran .stops);
+            ran .carries ∙ ap (λ s. cond (eqb (s .row) 0) (rowPlan F last) (replicate room 0)) (ran .stops);
         arrives =
-            ran .arrives ∙ ap (λ s. cond (eqb (s .row) 0) (arrivalsOf T start last) (replicate (length start) 0))
+            ran .arrives ∙ ap (λ s. cond (eqb (s .row) 0) (rowArrivals F last) (replicate (length (F .len)) 0))
             (ran .stops);
       }
 
-  pub run-accepted : stop .row ≡ 0 → (sends : ℕ) → sends ≡ total start → (most : ℕ) → most ≡ largest arrivals′
-      → (s : Summary) → s ≡ summaryOf (length arrivals′) sends (T .nodes * most) arrivals′
-      → RunPlanned T start (length plan₀) (Accepted s) plan′ arrivals′
+  pub run-accepted : stop .row ≡ 0 → (sends : ℕ) → sends ≡ crossed (F .len) (F .links)
+      → (most : ℕ) → most ≡ largest arrivals′
+      → (s : Summary) → s ≡ summaryOf (length arrivals′) sends (F .nodes * most) arrivals′
+      → RunPlanned F room (Accepted s) plan′ arrivals′
   unfolding answerToRun
   run-accepted on-time sends e most m s sums = areas (Accepted s) (ap Accepted (sums ∙ figures) ∙ rw (on-time))
     where
-      there : arrivals′ ≡ arrivalsOf T start last
+      there : arrivals′ ≡ rowArrivals F last
       there = ran .arrives ∙ rw on-time
 
-      figures : summaryOf (length arrivals′) sends (T .nodes * most) arrivals′ ≡ summaryOf (length start) (total start)
-          (T .nodes * largest (arrivalsOf T start last)) (arrivalsOf T start last)
-      figures = rw (m, there, arrivals-long T start last, e)
+      figures : summaryOf (length arrivals′) sends (F .nodes * most) arrivals′
+          ≡ summaryOf (length (F .len)) (crossed (F .len) (F .links))
+          (F .nodes * largest (rowArrivals F last)) (rowArrivals F last)
+      figures = rw (m, there, arrivals-long F last, e)
 
   pub run-refused : (stop .row ≡ 0 → ⊥)
-      → RunPlanned T start (length plan₀) (Refused (refuse 9 (stop .row) (stop .slot .0))) plan′ arrivals′
+      → RunPlanned F room (Refused (refuse 9 (stop .row) (stop .slot .0))) plan′ arrivals′
   unfolding answerToRun
   run-refused is-late = areas (Refused (refuse 9 (stop .row) (stop .slot .0))) (rw (ne-eqb (stop .row) 0 is-late))

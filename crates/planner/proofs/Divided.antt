@@ -19,24 +19,29 @@ use lib.Ieee.Back.{round-whole, unsigned-back}
 use lib.Ieee.Scale.{round-same}
 use lib.ListN.{length, getD}
 use Rattle.lists.specs.Lists.{total, largest}
-use Rattle.lists.proofs.Build.{getD-build}
 use Rattle.lists.proofs.Figures.{total-below, largest-below}
 use Rattle.table.specs.declared.Row.{Row}
-use Rattle.table.specs.Table.{WellFormed, distances, lastDue}
-use Rattle.slack.specs.Slack.{deliveredFrom, arrivalsOf}
+use Rattle.table.specs.Table.{WellFormed, lengths, cellsIn, sendsOf, lastDue}
 use Rattle.optimal.proofs.Deliveries.{delivered-first}
+use Rattle.cells.specs.Rows.{Freight, cellLinks}
+use Rattle.cells.specs.Cells.{Laden, cellTraffic}
+use Rattle.best.proofs.Order.{links-long, laid-on-ring}
+use Rattle.best.proofs.Arriving.{last, arrival-is}
 use Rattle.planner.specs.declared.Summary.{Summary}
 use Rattle.planner.specs.declared.Answer.the-variants.{Accepted}
-use Rattle.planner.specs.Planner.{trafficOf, theArrivals, quotient, summaryOf, theSummary, numberOf, Planned}
+use Rattle.planner.specs.Planner.{freightOf, theArrivals, quotient, summaryOf, theSummary}
+use Rattle.planner.specs.Planner.{numberOf, Planned}
 use Rattle.planner.proofs.Answering.{arrivals-long}
 use Rattle.planner.proofs.Good.{soon}
+use Rattle.planner.proofs.Crossed.{sends-of-cells}
 use Rattle.planner.proofs.Judged.{sound}
 use Rattle.planner.proofs.Promises.{
   tabled,
   all-good,
-  table-on-ring,
+  table-laden,
+  table-cells,
   accepted-with,
-  distances-long,
+  lengths-long,
   last-above-zero,
 }
 use Rattle.planner.proofs.Seen.{accepted-is-plannable}
@@ -106,22 +111,25 @@ pub record Divided (n : ℕ) (rows : List Row) (s : Summary) : Type 0 where
   pub share-rounded : 0 < length rows → s .share ≡ round binary64 false (s .sends) (n * s .last .0)
 
 module _ (n : ℕ) (rows : List Row) (well : WellFormed n rows) where
+  abbrev F : Freight
+  F = freightOf n rows
+
   arrival-soon : (i : ℕ) → i < length (theArrivals n rows) → getD (theArrivals n rows) i 0 ≤ 1024
-  unfolding theArrivals arrivalsOf lastDue
+  unfolding theArrivals lastDue
   arrival-soon i l =
-      let start = distances n rows in
-      let when : ℕ → ℕ = λ j. deliveredFrom (trafficOf n rows) (distances n rows) j (lastDue rows) 0 in
-      let known : i < length start = omega (arith, arrivals-long (trafficOf n rows) start (lastDue rows)) in
+      let laden = table-laden n rows well in
+      let known : i < length (lengths rows) = omega (arith, arrivals-long F (lastDue rows)) in
+      let some = table-cells n rows well i known in
       omega (
         arith,
-        getD-build (length start) when i 0 known,
-        delivered-first (trafficOf n rows) start i (lastDue rows) 0 .within,
+        arrival-is F laden i known some (lastDue rows),
+        delivered-first (cellTraffic F) (cellLinks F) (last F laden i known some) (lastDue rows) 0 .within,
         soon (tabled n rows well) (all-good n rows well),
       )
 
   its-rows : length (theArrivals n rows) ≡ length rows
   unfolding theArrivals
-  its-rows = arrivals-long (trafficOf n rows) (distances n rows) (lastDue rows) ∙ distances-long n rows
+  its-rows = arrivals-long F (lastDue rows) ∙ lengths-long rows
 
   few-rows : length rows ≤ 512
   few-rows = sound n rows well .few
@@ -129,11 +137,14 @@ module _ (n : ℕ) (rows : List Row) (well : WellFormed n rows) where
   small-sum : total (theArrivals n rows) ≤ 1024 * 512
   small-sum = omega (arith, total-below 1024 (theArrivals n rows) arrival-soon, its-rows, few-rows)
 
-  small-sends : total (distances n rows) ≤ 32 * 512
-  small-sends = omega (arith, total-below 32 (distances n rows) within-32, distances-long n rows, few-rows)
+  small-sends : sendsOf n rows ≤ 32 * 1024
+  unfolding cellsIn cellTraffic
+  small-sends =
+      omega (arith, sends-of-cells n rows, total-below 32 (cellLinks F) within-32, links-long F, sound n rows well .cells)
     where
-      within-32 : (i : ℕ) → i < length (distances n rows) → getD (distances n rows) i 0 ≤ 32
-      within-32 i l = omega (arith, table-on-ring n rows well .left-inside i l, sound n rows well .most)
+      within-32 : (c : ℕ) → c < length (cellLinks F) → getD (cellLinks F) c 0 ≤ 32
+      within-32 c l =
+          omega (arith, laid-on-ring F (table-laden n rows well) .left-inside c l, sound n rows well .most)
 
   small-time : n * largest (theArrivals n rows) ≤ 32 * 1024
   small-time = mul-le-mul (sound n rows well .most) (largest-below 1024 (theArrivals n rows) arrival-soon)
@@ -144,8 +155,8 @@ module _ (n : ℕ) (rows : List Row) (well : WellFormed n rows) where
   rows-exact : Exact (length rows)
   rows-exact = exact-up-to (length rows) (omega (arith, few-rows))
 
-  sends-exact : Exact (total (distances n rows))
-  sends-exact = exact-up-to (total (distances n rows)) (omega (arith, small-sends))
+  sends-exact : Exact (sendsOf n rows)
+  sends-exact = exact-up-to (sendsOf n rows) (omega (arith, small-sends))
 
   time-exact : Exact (n * largest (theArrivals n rows))
   time-exact = exact-up-to (n * largest (theArrivals n rows)) (omega (arith, small-time))

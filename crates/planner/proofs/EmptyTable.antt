@@ -12,9 +12,11 @@ use mathlib.Core.List.{[]}
 use borrow.Author.Tests.{le-ltb}
 use lib.Ieee.{binary64, ofBits}
 use Rattle.lists.specs.Lists.{total, largest}
-use Rattle.table.specs.Table.{judge, judgeRows, dues, distances, lastDue}
+use Rattle.table.specs.Table.{judge, judgeRows, judgeAll, afterRows, cellsIn, lengths, dues, distances, sendsOf, lastDue}
 use Rattle.slack.specs.Slack.{planOf, arrivalsOf, lateFrom, lateRow, anyUnderWay, stopFrom, stopOf}
-use Rattle.optimal.specs.Schedule.{Legal, Meets}
+use Rattle.cells.specs.Rows.{perCell, ownersOf, owners, laidOut, cellLinks, LegalRows, MeetsRows}
+use Rattle.cells.specs.Cells.{cellTraffic, ownerOf, toldBy, toldInRows, rowPlan, endBy, rowStop}
+use Rattle.cells.specs.Cells.{ofLastCells, rowArrivals}
 use Rattle.planner.specs.declared.Summary.{Summary}
 use Rattle.planner.specs.declared.Answer.the-variants.{Accepted}
 use Rattle.planner.specs.Planner.{
@@ -33,7 +35,7 @@ use Rattle.planner.specs.Planner.{
 -- On whatever ring, the empty list is a legal schedule of no slots, and brings every row of an empty table there in
 -- time.
 pub empty-schedule : (n : ℕ) → ScheduleOf n [] []
-unfolding Legal Meets largest dues distances lastDue
+unfolding LegalRows MeetsRows largest lengths dues distances lastDue
 empty-schedule n =
     record {
       entries = omega arith;
@@ -47,19 +49,22 @@ zeros = record { last = record { 0 = 0 }; sends = 0; sum = 0; mean = ofBits bina
 
 -- On whatever ring, it is the summary of an empty table.
 pub empty-summary : (n : ℕ) → theSummary n [] ≡ zeros
-unfolding zeros theSummary summaryOf quotient theArrivals arrivalsOf total largest dues distances lastDue
+unfolding zeros theSummary sendsOf summaryOf quotient theArrivals rowArrivals ofLastCells arrivalsOf cellLinks laidOut
+    perCell total largest lengths dues distances lastDue
 empty-summary n = rw (mul-zero n)
 
 -- And no entry is used.
 pub empty-areas : (n : ℕ) → (thePlan n [] ≡ []) × (theArrivals n [] ≡ [])
-unfolding thePlan planOf theArrivals arrivalsOf largest dues distances lastDue
+unfolding thePlan rowPlan toldInRows toldBy planOf theArrivals rowArrivals ofLastCells arrivalsOf largest lengths dues
+    distances lastDue
 empty-areas n = (refl, refl)
 
 -- On a ring of 2 to 32 nodes an empty table is accepted with that summary, whatever room is lent.
 pub empty-accepted : (n plan-lent arrivals-lent : ℕ) → 2 ≤ n → n ≤ 32
     → theAnswer n [] plan-lent arrivals-lent ≡ Accepted zeros
-unfolding theAnswer afterVerdict answerToRows judge judgeRows ending stopOf stopFrom lateRow lateFrom anyUnderWay
-    largest dues distances lastDue
+unfolding theAnswer afterVerdict answerToRows judge judgeAll judgeRows afterRows cellsIn ending rowStop endBy ownerOf
+    owners ownersOf stopOf stopFrom lateRow lateFrom anyUnderWay cellLinks laidOut perCell total largest lengths dues
+    distances lastDue
 empty-accepted n plan-lent arrivals-lent least most =
     rw (
       le-ltb n 2 least,

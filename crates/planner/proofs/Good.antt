@@ -10,24 +10,30 @@ use borrow.Author.Tests.{lt-ltb, le-ltb}
 use lib.Dec.{eqb}
 use lib.ListN.{length, getD, take, drop, replicate}
 use lib.Seq.{length-take-le}
-use Rattle.lists.specs.Lists.{build, largest}
+use Rattle.lists.specs.Lists.{build, total, largest}
 use Rattle.lists.proofs.Build.{length-build, getD-build}
 use Rattle.lists.proofs.Figures.{largest-below}
 use Rattle.ring.specs.Ring.{distance}
 use Rattle.ring.proofs.Standing.{distance-below, apart}
 use Rattle.table.specs.declared.Row.{Row}
 use Rattle.table.specs.declared.Verdict.the-variants.{Good}
-use Rattle.table.specs.Table.{judgeRows, refuse, distances, lastDue}
+use Rattle.table.specs.Table.{judgeRows, judgeAll, refuse, distances, sendsOf, lastDue}
 use Rattle.table.specs.Steps.{rowsOf, Measuring}
-use Rattle.table.proofs.Judging.{GoodRow, good-rows, rows-long, rows-at, its-destinations, its-dues, its-distances}
-use Rattle.slack.specs.Slack.{traffic, OnRing, planOf, arrivalsOf, stopOf}
-use Rattle.slack.proofs.Rule.{plan-length}
+use Rattle.table.proofs.Judging.{GoodRow, good-rows, all-good, rows-long, rows-at}
+use Rattle.table.proofs.Judging.{its-destinations, its-lengths, its-cells, its-dues, its-distances}
+use Rattle.cells.specs.Rows.{Freight, freight}
+use Rattle.cells.specs.Cells.{Laden, rowStop, rowPlan, rowArrivals}
+use Rattle.cells.specs.Steps.{AboveZero}
+use Rattle.best.proofs.Best.{row-plan-long}
+use Rattle.rows.specs.Steps.{Loaded}
 use Rattle.planner.specs.declared.Answer.{Answer}
 use Rattle.planner.specs.declared.Summary.{Summary}
 use Rattle.planner.specs.declared.Answer.the-variants.{Accepted, Refused}
-use Rattle.planner.specs.Planner.{trafficOf, ending, thePlan, theArrivals, theSummary, answerToRows, areaAfter}
-use Rattle.planner.specs.Steps.{Runnable, RunPlanned, answerToRun, Tabled, GoodPlanned}
+use Rattle.planner.specs.Planner.{freightOf, ending, thePlan, theArrivals, theSummary, answerToRows}
+use Rattle.planner.specs.Planner.{areaAfter}
+use Rattle.planner.specs.Steps.{crossed, RunPlanned, answerToRun, Tabled, GoodPlanned}
 use Rattle.planner.proofs.Answering.{arrivals-long}
+use Rattle.planner.proofs.Crossed.{table-crossed}
 
 -- what an area holds that was filled, or cleared, in its front
 filled : (b : Bool) (s : Summary) (row slot m : ℕ) (given part before : List ℕ)
@@ -37,10 +43,10 @@ unfolding areaAfter
 filled true s row slot m given part before e f = rw (f, e)
 filled false s row slot m given part before e f = rw (f, e)
 
-module _ {n : ℕ} {src dst due : List ℕ}
-    (k : Tabled n src dst due) (good : judgeRows n (rowsOf src dst due) 0 ≡ Good) where
+module _ {n : ℕ} {src dst len due : List ℕ}
+    (k : Tabled n src dst len due) (good : judgeAll n (rowsOf src dst len due) ≡ Good) where
   abbrev rows : List Row
-  rows = rowsOf src dst due
+  rows = rowsOf src dst len due
 
   abbrev last : ℕ
   last = largest due
@@ -48,8 +54,17 @@ module _ {n : ℕ} {src dst due : List ℕ}
   abbrev start : List ℕ
   start = build (length src) (λ i. distance n (getD src i 0) (getD dst i 0))
 
-  row : (i : ℕ) → i < length src → GoodRow n (record { src = getD src i 0; dst = getD dst i 0; due = getD due i 0 })
-  row i h = rw (rows-at src dst due i h) at (good-rows n rows 0 good i (omega (arith, rows-long src dst due)))
+  -- the rows as their run sees them
+  abbrev load : Freight
+  load = freight n dst len due start
+
+  each-good : judgeRows n rows 0 ≡ Good
+  each-good = all-good n rows good .0
+
+  row : (i : ℕ) → i < length src
+      → GoodRow n (record { src = getD src i 0; dst = getD dst i 0; len = getD len i 0; due = getD due i 0 })
+  row i h =
+      rw (rows-at src dst len due i h) at (good-rows n rows 0 each-good i (omega (arith, rows-long src dst len due)))
 
   pub measuring : (left : List ℕ) → length left ≡ length src → Measuring n src dst left
   measuring left e =
@@ -66,71 +81,88 @@ module _ {n : ℕ} {src dst due : List ℕ}
   pub room-small : n * last ≤ 32768
   room-small = mul-le-mul (k .most) soon
 
-  start-long : length start ≡ length src
+  pub start-long : length start ≡ length src
   start-long = length-build (length src) _
 
-  start-at : (i : ℕ) → i < length start → (i < length src) × (getD start i 0 ≡ distance n (getD src i 0) (getD dst i 0))
-  start-at i h = let l : i < length src = omega (arith, start-long) in (l, getD-build (length src) _ i 0 l)
+  pub start-at : (i : ℕ) → i < length src → getD start i 0 ≡ distance n (getD src i 0) (getD dst i 0)
+  start-at i h = getD-build (length src) _ i 0 h
 
   less-than-a-turn : (i : ℕ) → i < length src → distance n (getD src i 0) (getD dst i 0) ≤ n
   less-than-a-turn i h = omega (arith, distance-below n (getD src i 0) (getD dst i 0) (row i h .dst-inside))
 
-  pub on-ring : OnRing (traffic n dst due) start
-  on-ring =
+  known : (i : ℕ) → i < length len → i < length src
+  known i h = omega (arith, k .same .len-each)
+
+  pub laden : Laden load
+  laden =
       record {
         some-node = omega (arith, k .least);
-        dst-each = k .same .dst-each ∙ sym start-long;
-        due-each = k .same .due-each ∙ sym start-long;
-        dst-inside = λ i h. row i (start-at i h .0) .dst-inside;
-        left-inside = λ i h. rw (start-at i h .1) (less-than-a-turn i (start-at i h .0));
+        dst-inside = λ i h. row i (known i h) .dst-inside;
+        links-inside = λ i h. rw (start-at i (known i h)) (less-than-a-turn i (known i h));
       }
 
-  -- Every row of a well-formed table has links to go.
-  pub under-way : (i : ℕ) → i < length start → 0 < getD start i 0
-  under-way i h =
-      let r = row i (start-at i h .0) in
-      rw (start-at i h .1) (apart n (getD src i 0) (getD dst i 0) (r .src-inside) (r .dst-inside) (r .apart))
+  -- Every row of a well-formed table has a cell.
+  pub some-cell : AboveZero len
+  some-cell i h = row i (known i h) .len-some
 
-  pub runnable : {left : List ℕ} (plan arrivals : List ℕ) → left ≡ start → length plan ≡ n * last
-      → length arrivals ≡ length src → Runnable (traffic n dst due) left plan arrivals
+  -- Every row of a well-formed table has links to go.
+  pub under-way : (i : ℕ) → i < length src → 0 < getD start i 0
+  under-way i h =
+      let r = row i h in
+      rw (start-at i h) (apart n (getD src i 0) (getD dst i 0) (r .src-inside) (r .dst-inside) (r .apart))
+
+  pub few-cells : total len ≤ 1024
+  few-cells = rw (its-cells src dst len due (k .same)) at (all-good n rows good .1)
+
+  pub runnable : {links : List ℕ} (plan arrivals : List ℕ) → links ≡ start → length plan ≡ n * last
+      → length arrivals ≡ length src → Loaded (freight n dst len due links) plan arrivals
   runnable plan arrivals e p a = rw e (
       record {
-        ready = record {
-          ring = on-ring;
-          few = omega (arith, start-long, k .same .few);
-          soon = omega (arith, soon);
-          room = p;
-          rows = a ∙ sym start-long;
-        };
-        few = omega (arith, start-long, k .same .few);
-        small = omega (arith, p, room-small);
+        laden = laden;
+        some = some-cell;
+        rows = omega (arith, k .same .len-each, k .same .few);
+        few = few-cells;
+        dst-each = k .same .dst-each ∙ sym (k .same .len-each);
+        due-each = k .same .due-each ∙ sym (k .same .len-each);
+        links-each = start-long ∙ sym (k .same .len-each);
+        soon = omega (arith, soon);
+        room = p;
+        each = a ∙ sym (k .same .len-each);
       })
 
   -- the table's own words for the run
-  pub its-traffic : trafficOf n rows ≡ traffic n dst due
-  its-traffic = rw (its-destinations src dst due (k .same), its-dues src dst due (k .same))
-
-  pub its-start : distances n rows ≡ start
-  its-start = its-distances src dst due (k .same) n
+  pub its-freight : freightOf n rows ≡ load
+  its-freight =
+      let same = k .same in
+      rw (
+        its-destinations src dst len due same,
+        its-lengths src dst len due same,
+        its-dues src dst len due same,
+        its-distances src dst len due same n,
+      )
 
   its-last : lastDue rows ≡ last
   unfolding lastDue
-  its-last = rw (its-dues src dst due (k .same))
+  its-last = rw (its-dues src dst len due (k .same))
 
-  its-ending : ending n rows ≡ stopOf (traffic n dst due) start last
+  its-ending : ending n rows ≡ rowStop load last
   unfolding ending
-  its-ending = rw (its-traffic, its-start, its-last)
+  its-ending = rw (its-freight, its-last)
 
-  its-plan : thePlan n rows ≡ planOf (traffic n dst due) start last
+  its-plan : thePlan n rows ≡ rowPlan load last
   unfolding thePlan
-  its-plan = rw (its-traffic, its-start, its-last)
+  its-plan = rw (its-freight, its-last)
 
-  its-arrivals : theArrivals n rows ≡ arrivalsOf (traffic n dst due) start last
+  its-arrivals : theArrivals n rows ≡ rowArrivals load last
   unfolding theArrivals
-  its-arrivals = rw (its-traffic, its-start, its-last)
+  its-arrivals = rw (its-freight, its-last)
+
+  its-sends : sendsOf n rows ≡ crossed len start
+  its-sends =
+      table-crossed n rows ∙ ap (λ F. crossed (F .len) (F .links)) its-freight
 
   plan-room : length (thePlan n rows) ≡ n * last
-  plan-room = ap length its-plan ∙ plan-length (traffic n dst due) start last ∙ mul-comm last n
+  plan-room = ap length its-plan ∙ row-plan-long laden last ∙ mul-comm last n
 
   module _ (plan arrivals : List ℕ) where
     pub short-plan : {r : Answer} → r ≡ Refused (refuse 7 0 0) → length plan < n * last
@@ -148,42 +180,42 @@ module _ {n : ℕ} {src dst due : List ℕ}
         let short = lt-ltb (length arrivals) (length src) h in
         rw e
         (record {
-          answers = rw (its-last, room, rows-long src dst due, short);
+          answers = rw (its-last, room, rows-long src dst len due, short);
           fills-plan = refl;
           fills-arrivals = refl;
         })
 
     its-answer : n * last ≤ length plan → length src ≤ length arrivals
         → answerToRows n rows (length plan) (length arrivals)
-        ≡ answerToRun (traffic n dst due) start (stopOf (traffic n dst due) start last)
+        ≡ answerToRun load (rowStop load last)
     unfolding answerToRows answerToRun theSummary
     its-answer p a =
         rw (
           its-last,
           le-ltb (length plan) (n * last) p,
-          rows-long src dst due,
+          rows-long src dst len due,
           le-ltb (length arrivals) (length src) a,
           its-ending,
-          its-start,
+          its-sends,
           its-arrivals,
-          start-long,
+          k .same .len-each,
         )
 
-    planned : (left part stamps : List ℕ) (r : Answer) → left ≡ start
+    planned : (links part stamps : List ℕ) (r : Answer) → links ≡ start
         → n * last ≤ length plan → length src ≤ length arrivals
-        → RunPlanned (traffic n dst due) left (n * last) r part stamps
+        → RunPlanned (freight n dst len due links) (n * last) r part stamps
         → GoodPlanned n rows plan arrivals r (part ++ drop (n * last) plan) (stamps ++ drop (length src) arrivals)
     unfolding answerToRun
-    planned left part stamps r e p a run =
-        let ran : RunPlanned (traffic n dst due) start (n * last) r part stamps = rw e at run in
-        let stop = stopOf (traffic n dst due) start last in
+    planned links part stamps r e p a run =
+        let ran : RunPlanned load (n * last) r part stamps = rw e at run in
+        let stop = rowStop load last in
         let on-time = eqb (stop .row) 0 in
         let carried : part ≡ cond on-time (thePlan n rows) (replicate (n * last) 0) = ran .carries ∙ rw its-plan in
         let given = theArrivals n rows in
         let many = length src in
-        let arrived : stamps ≡ cond on-time given (replicate many 0) = ran .arrives ∙ rw (its-arrivals, start-long) in
-        let its-length = arrivals-long (traffic n dst due) start last in
-        let long : length given ≡ many = ap length its-arrivals ∙ its-length ∙ start-long in
+        let arrived : stamps ≡ cond on-time given (replicate many 0)
+        = ran .arrives ∙ rw (its-arrivals, k .same .len-each) in
+        let long : length given ≡ many = ap length its-arrivals ∙ arrivals-long load last ∙ k .same .len-each in
         record {
           answers = ran .answers ∙ sym (its-answer p a);
           fills-plan =
@@ -196,10 +228,10 @@ module _ {n : ℕ} {src dst due : List ℕ}
         }
 
     -- the same, where the largest due slot is what was found
-    pub planned-with : {g : ℕ} → g ≡ last → {left part stamps : List ℕ} {r : Answer}
+    pub planned-with : {g : ℕ} → g ≡ last → {links part stamps : List ℕ} {r : Answer}
         → n * g ≤ length plan → length src ≤ length arrivals
-        → RunPlanned (traffic n dst due) left (length (take (n * g) plan)) r part stamps → left ≡ start
+        → RunPlanned (freight n dst len due links) (length (take (n * g) plan)) r part stamps → links ≡ start
         → GoodPlanned n rows plan arrivals r (part ++ drop (n * g) plan) (stamps ++ drop (length src) arrivals)
-    planned-with {g} e {left} {part} {stamps} {r} p a run l =
+    planned-with {g} e {links} {part} {stamps} {r} p a run l =
         let room : length (take (n * g) plan) ≡ n * g = length-take-le (n * g) plan p in
-        rw e (planned left part stamps r l (rw e at p) a (rw (room, e) at run))
+        rw e (planned links part stamps r l (rw e at p) a (rw (room, e) at run))

@@ -9,3 +9,4 @@ pub mod Starting
 pub mod Seen
 pub mod Divided
 mod Cases
+pub mod Crossed

@@ -12,7 +12,7 @@ use lib.ListN.{length, drop, replicate}
 use Rattle.table.specs.declared.Row.{Row}
 use Rattle.table.specs.declared.Verdict.{Verdict}
 use Rattle.table.specs.declared.Verdict.the-variants as verdict
-use Rattle.table.specs.Table.{judge, judgeRows, refuse}
+use Rattle.table.specs.Table.{judge, judgeAll, refuse}
 use Rattle.table.specs.Steps.{columns, listed}
 use Rattle.table.proofs.Rows.{length-listed, listed-columns}
 use Rattle.planner.specs.declared.Answer.{Answer}
@@ -35,7 +35,7 @@ judged : (n : ℕ) (rows : List Row) → 512 < length rows → judge n rows ≡ 
 unfolding judge
 judged n rows l =
     ap (λ (t : Bool). cond (ltb n 2 || ltb 32 n) (verdict.Refused (refuse 1 0 0))
-    (cond t (verdict.Refused (refuse 2 0 0)) (judgeRows n rows 0))) (lt-ltb 512 (length rows) l)
+    (cond t (verdict.Refused (refuse 2 0 0)) (judgeAll n rows))) (lt-ltb 512 (length rows) l)
     ∙ either (ltb n 2 || ltb 32 n)
 
 answered : (n : ℕ) (rows : List Row) (p a : ℕ) → 512 < length rows → theAnswer n rows p a ≡ tooMany n

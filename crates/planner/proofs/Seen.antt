@@ -1,34 +1,39 @@
 -- From the definitions to what is seen: the entries of every accepted outcome.
 --     accepted-is-plannable       an accepted table is well-formed, with room for its plan and its arrivals
---     entry-is-pick               entry t × N + p of the plan is the row that the rule picks at p at instant t
---     arrivals-are-deliveries     the arrivals are the instants at which that very plan delivers
+--     entry-is-pick               entry t × N + p of the plan is the row of the cell that the rule picks there
+--     arrivals-are-deliveries     the arrivals are the instants at which that very plan has delivered whole rows
 --     arrives-in-time             none of them lies after its row's due slot
 -- Assumes nothing.
 use mathlib.Core.Path.{_≡_, refl, _∙_, ap, sym}
+use mathlib.Core.Logic.{_↔_}
 use Prim.Native.Nat.{ℕ, suc, _+_, _*_, _≤_, _<_}
 use native.Mathlib.Nat.{mul-comm}
-use native.Mathlib.Omega.{arith, by-contra}
+use native.Mathlib.Omega.{arith}
 use mathlib.Core.Bool.{Bool, true, false, cond, _||_}
 use mathlib.Core.List.{List, [], _∷_, _++_}
 use borrow.Author.Tests.{ltb-false, eqb-false}
 use lib.Dec.{eqb, ltb}
 use lib.ListN.{length, getD, take, drop, List·getD-append}
 use lib.Seq.{getD-take}
-use Rattle.lists.proofs.Build.{getD-build}
+use Rattle.lists.specs.Lists.{total}
 use Rattle.table.specs.declared.Row.{Row}
 use Rattle.table.specs.declared.Refusal.{Refusal}
 use Rattle.table.specs.declared.Verdict.{Verdict}
 use Rattle.table.specs.declared.Verdict.the-variants as verdict
-use Rattle.table.specs.Table.{judge, judgeRows, rowRefusal, most-rows, refuse, dues, distances, lastDue}
+use Rattle.table.specs.Table.{judge, judgeRows, judgeAll, afterRows, cellsIn, rowRefusal, most-rows, most-cells, refuse}
+use Rattle.table.specs.Table.{lengths, dues, lastDue}
 use Rattle.table.proofs.Judging.{never-good}
-use Rattle.slack.specs.Slack.{Traffic, pick, stateAt, deliveredFrom, arrivalsOf}
-use Rattle.optimal.specs.Schedule.{Meets}
+use Rattle.slack.specs.Slack.{Traffic, pick, stateAt, planOf}
 use Rattle.optimal.proofs.Plan.{entry-inside, plan-entry}
-use Rattle.optimal.proofs.Deliveries.{Delivered, plan-delivers}
+use Rattle.cells.specs.Rows.{Freight, cellLinks, cellsLeft, Delivered, MeetsRows}
+use Rattle.cells.specs.Cells.{cellTraffic, rowOf, rowPlan, rowArrivals}
+use Rattle.best.proofs.Order.{links-long}
+use Rattle.best.proofs.Best.{told-at}
+use Rattle.best.proofs.Arriving.{row-arrives}
 use Rattle.planner.specs.declared.Answer.{Answer}
 use Rattle.planner.specs.declared.Answer.the-variants.{Accepted, Refused}
 use Rattle.planner.specs.Planner.{
-  trafficOf,
+  freightOf,
   planRoom,
   ending,
   theArrivals,
@@ -48,7 +53,9 @@ use Rattle.planner.proofs.Promises.{
   accepted-with,
   the-plan-is,
   accepted-plan-is-a-schedule,
-  distances-long,
+  lengths-long,
+  table-laden,
+  table-cells,
 }
 
 -- A refusal of the table has a number other than 0.
@@ -67,20 +74,32 @@ row-refused n (r ∷ rows) above x e z = go (eqb (rowRefusal n r) 0) refl e (row
         let number : rowRefusal n r ≡ x .number = cc in
         eqb-false (rowRefusal n r) 0 f (number ∙ z)
 
+all-refused : (n : ℕ) (rows : List Row) (x : Refusal) → judgeAll n rows ≡ verdict.Refused x → x .number ≡ 0 → ⊥
+unfolding judgeAll afterRows
+all-refused n rows x e z = go (judgeRows n rows 0) refl e
+  where
+    many : (b : Bool) → cond b (verdict.Refused (refuse 11 0 0)) verdict.Good ≡ verdict.Refused x → ⊥
+    many true h = let number : _≡_ {A = ℕ} 11 (x .number) = cc in omega arith
+    many false h = never-good x (sym h)
+
+    go : (v : Verdict) → judgeRows n rows 0 ≡ v → afterRows v (cellsIn rows) ≡ verdict.Refused x → ⊥
+    go verdict.Good f h = many (ltb most-cells (cellsIn rows)) h
+    go (verdict.Refused y) f h = row-refused n rows 0 x (f ∙ h) z
+
 table-refused : (n : ℕ) (rows : List Row) (x : Refusal) → judge n rows ≡ verdict.Refused x → x .number ≡ 0 → ⊥
 unfolding judge
 table-refused n rows x e z = go (ltb n 2 || ltb 32 n) (ltb most-rows (length rows)) e
   where
     go : (a b : Bool)
-        → cond a (verdict.Refused (refuse 1 0 0)) (cond b (verdict.Refused (refuse 2 0 0)) (judgeRows n rows 0))
+        → cond a (verdict.Refused (refuse 1 0 0)) (cond b (verdict.Refused (refuse 2 0 0)) (judgeAll n rows))
         ≡ verdict.Refused x → ⊥
     go true b h = let number : _≡_ {A = ℕ} 1 (x .number) = cc in omega arith
     go false true h = let number : _≡_ {A = ℕ} 2 (x .number) = cc in omega arith
-    go false false h = row-refused n rows 0 x h z
+    go false false h = all-refused n rows x h z
 
 module _ {n : ℕ} {rows : List Row} {plan arrivals plan′ arrivals′ : List ℕ} {r : Answer}
     (out : Planned n rows plan arrivals r plan′ arrivals′) (accepted : numberOf r ≡ 0) where
-  -- Refusals 1 to 8 do not hold of an accepted table.
+  -- Refusals 1 to 8, 10 and 11 do not hold of an accepted table.
   pub accepted-is-plannable : Plannable n rows plan arrivals
   unfolding theAnswer afterVerdict answerToRows numberOf
   accepted-is-plannable = by-verdict (judge n rows) refl (ap numberOf (sym (out .answers)) ∙ accepted)
@@ -110,51 +129,55 @@ module _ {n : ℕ} {rows : List Row} {plan arrivals plan′ arrivals′ : List �
           room (ltb (length plan) (planRoom n rows)) refl (ltb (length arrivals) (length rows)) refl e z
       by-verdict (verdict.Refused x) e z = absurd (table-refused n rows x e z)
 
+  abbrev F : Freight
+  F = freightOf n rows
+
   abbrev T : Traffic
-  T = trafficOf n rows
+  T = cellTraffic F
 
   abbrev start : List ℕ
-  start = distances n rows
+  start = cellLinks F
 
-  -- Entry t × N + p of an accepted plan is the row that the rule picks at p at instant t.
+  -- Entry t × N + p of an accepted plan is the row of the cell that the rule picks at p at instant t.
   pub entry-is-pick : (t p : ℕ) → t < lastDue rows → p < n
-      → getD plan′ (t * n + p) 0
-      ≡ pick (trafficOf n rows) t (stateAt (trafficOf n rows) (distances n rows) t) p (length rows)
+      → getD plan′ (t * n + p) 0 ≡ rowOf F (pick T t (stateAt T start t) p (total (lengths rows)))
+  unfolding rowPlan cellTraffic
   entry-is-pick t p early inside =
       let before-end = entry-inside n (lastDue rows) t p early inside in
       let used : t * n + p < planRoom n rows = omega (arith, mul-comm (lastDue rows) n) in
+      let plan = planOf T start (lastDue rows) in
       sym (getD-take (planRoom n rows) plan′ (t * n + p) 0 used)
       ∙ ap (λ front. getD front (t * n + p) 0) (the-plan-is accepted-is-plannable out accepted)
-      ∙ plan-entry T start (lastDue rows) t p early inside ∙ ap (pick T t (stateAt T start t) p) (distances-long n rows)
+      ∙ told-at F plan (t * n + p) ∙ ap (rowOf F) (plan-entry T start (lastDue rows) t p early inside)
+      ∙ ap (λ m. rowOf F (pick T t (stateAt T start t) p m)) (links-long F)
 
-  -- Row i's arrival is the instant that is found for it.
-  its-arrival : (i : ℕ) → i < length start → getD arrivals′ i 0 ≡ deliveredFrom T start i (lastDue rows) 0
-  unfolding areaAfter theArrivals arrivalsOf
+  -- Row i's arrival is that of the rule's run.
+  its-arrival : (i : ℕ) → i < length rows → getD arrivals′ i 0 ≡ getD (rowArrivals F (lastDue rows)) i 0
+  unfolding areaAfter theArrivals
   its-arrival i known =
       let given = theArrivals n rows in
       let carries = accepted-with accepted-is-plannable out accepted in
       let filled : arrivals′ ≡ given ++ drop (length given) arrivals = out .fills-arrivals ∙ rw carries in
-      let inside : i < length given = omega (arith, arrivals-long T start (lastDue rows)) in
+      let inside : i < length given = omega (arith, arrivals-long F (lastDue rows), lengths-long rows) in
       ap (λ area. getD area i 0) filled ∙ List·getD-append given (drop (length given) arrivals) 0 i inside
-      ∙ getD-build (length start) (λ j. deliveredFrom T start j (lastDue rows) 0) i 0 known
 
-  -- Each arrival is the instant at which the plan that is seen delivers its row: it has no link to go then, and some
-  -- before.
-  pub arrivals-are-deliveries : (i : ℕ) → i < length rows
-      → Delivered (trafficOf n rows) (distances n rows) (take (planRoom n rows) plan′) i (getD arrivals′ i 0)
-  arrivals-are-deliveries i known =
-      let inside : i < length start = omega (arith, distances-long n rows) in
+  -- Each arrival is the instant from which on the plan that is seen has delivered all cells of its row.
+  pub arrivals-are-deliveries : (i t : ℕ) → i < length rows → t ≤ lastDue rows
+      → (getD arrivals′ i 0 ≤ t) ↔ Delivered F (cellsLeft F (take (planRoom n rows) plan′) t) i
+  arrivals-are-deliveries i t known early =
       let k = accepted-is-plannable in
-      let dues-in-time = due-in-time n rows (k .well-formed) in
-      rw (the-plan-is k out accepted, its-arrival i inside)
-      (plan-delivers T start (lastDue rows) dues-in-time (accepted-then k out accepted) i inside)
+      let well = k .well-formed in
+      let inside : i < length (lengths rows) = omega (arith, lengths-long rows) in
+      rw (the-plan-is k out accepted, its-arrival i known)
+      (row-arrives F (table-laden n rows well) i inside (table-cells n rows well i inside) (lastDue rows)
+      (due-in-time n rows well) (accepted-then k out accepted) t early)
 
   -- No arrival lies after its row's due slot.
   pub arrives-in-time : (i : ℕ) → i < length rows → getD arrivals′ i 0 ≤ getD (dues rows) i 0
-  unfolding Meets
+  unfolding MeetsRows
   arrives-in-time i known =
-      let inside : i < length start = omega (arith, distances-long n rows) in
-      let met = accepted-plan-is-a-schedule accepted-is-plannable out accepted .meets i inside in
-      let first = arrivals-are-deliveries i known in
-      by-contra (getD arrivals′ i 0) (getD (dues rows) i 0)
-      (λ late. omega (arith, first .not-before (met .0) (omega arith)))
+      let k = accepted-is-plannable in
+      let inside : i < length (lengths rows) = omega (arith, lengths-long rows) in
+      let (t, in-time, whole) = accepted-plan-is-a-schedule k out accepted .meets i inside in
+      let early : t ≤ lastDue rows = omega (arith, in-time, due-in-time n rows (k .well-formed) i inside) in
+      omega (arith, in-time, arrivals-are-deliveries i t known early .1 whole)

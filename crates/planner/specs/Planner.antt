@@ -11,33 +11,33 @@ use Rattle.lists.specs.Lists.{total, largest}
 use Rattle.table.specs.declared.Row.{Row}
 use Rattle.table.specs.declared.Verdict.{Verdict}
 use Rattle.table.specs.declared.Verdict.the-variants as verdict
-use Rattle.table.specs.Table.{judge, WellFormed, refuse, destinations, dues, distances, lastDue}
+use Rattle.table.specs.Table.{judge, WellFormed, refuse, destinations, lengths, dues, distances, sendsOf, lastDue}
 use Rattle.slack.specs.declared.Stop.{Stop}
-use Rattle.slack.specs.Slack.{Traffic, traffic, stopOf, planOf, arrivalsOf}
-use Rattle.optimal.specs.Schedule.{Schedule}
+use Rattle.cells.specs.Rows.{Freight, freight, RowSchedule}
+use Rattle.cells.specs.Cells.{rowStop, rowPlan, rowArrivals}
 use Rattle.planner.specs.declared.Summary.{Summary}
 use Rattle.planner.specs.declared.Answer.{Answer}
 use Rattle.planner.specs.declared.Answer.the-variants.{Accepted, Refused}
 
--- The traffic of a table: its nodes, and its rows' destinations and due slots.
-abbrev pub trafficOf : ℕ → List Row → Traffic
-trafficOf n rows = traffic n (destinations rows) (dues rows)
+-- The freight of a table: its nodes, and its rows' destinations, lengths, due slots and distances.
+abbrev pub freightOf : ℕ → List Row → Freight
+freightOf n rows = freight n (destinations rows) (lengths rows) (dues rows) (distances n rows)
 
 -- The entries of a plan: N for each slot below the largest due slot.
 abbrev pub planRoom : ℕ → List Row → ℕ
 planRoom n rows = n * lastDue rows
 
--- Where the rule's run of a table ends.
+-- Where the rule's run of a table ends, and with which row.
 unfoldable pub ending : ℕ → List Row → Stop
-ending n rows = stopOf (trafficOf n rows) (distances n rows) (lastDue rows)
+ending n rows = rowStop (freightOf n rows) (lastDue rows)
 
 -- The plan of a table, link by link and slot by slot.
 unfoldable pub thePlan : ℕ → List Row → List ℕ
-thePlan n rows = planOf (trafficOf n rows) (distances n rows) (lastDue rows)
+thePlan n rows = rowPlan (freightOf n rows) (lastDue rows)
 
--- Each row's delivery instant.
+-- Each row's delivery instant: that of its last cell.
 unfoldable pub theArrivals : ℕ → List Row → List ℕ
-theArrivals n rows = arrivalsOf (trafficOf n rows) (distances n rows) (lastDue rows)
+theArrivals n rows = rowArrivals (freightOf n rows) (lastDue rows)
 
 -- One division of whole numbers that are exact as floats, rounded once; 0 where there is nothing to divide by.
 unfoldable pub quotient : ℕ → ℕ → Float
@@ -54,11 +54,11 @@ summaryOf rows sends time arrivals =
       share = quotient sends time;
     }
 
--- The summary of a table: its sends are the sum of all distances, and link time counts on N links until the last
--- delivery instant.
+-- The summary of a table: sum and mean are over its rows, and link time counts on N links until the last delivery
+-- instant.
 unfoldable pub theSummary : ℕ → List Row → Summary
 theSummary n rows =
-    summaryOf (length rows) (total (distances n rows)) (n * largest (theArrivals n rows)) (theArrivals n rows)
+    summaryOf (length rows) (sendsOf n rows) (n * largest (theArrivals n rows)) (theArrivals n rows)
 
 -- The answer to a well-formed table: 7 and 8 for the room lent, then 9 for a late row, else acceptance.
 unfoldable pub answerToRows : ℕ → List Row → (plan-lent arrivals-lent : ℕ) → Answer
@@ -99,9 +99,10 @@ pub record Planned (n : ℕ) (rows : List Row) (plan arrivals : List ℕ) (answe
 -- A legal schedule, by any rule, of N entries for each slot below the largest due slot, that brings every row of the
 -- table there in time.
 abbrev pub ScheduleOf : ℕ → List Row → List ℕ → Type 0
-ScheduleOf n rows = Schedule (trafficOf n rows) (distances n rows) (lastDue rows)
+ScheduleOf n rows = RowSchedule (freightOf n rows) (lastDue rows)
 
--- A well-formed table with room for its plan and its arrivals: refusals 1 to 8 do not hold of it.
+-- A well-formed table with room for its plan and its arrivals: refusals 1 to 8, 10 and 11 do not
+-- hold of it.
 pub record Plannable (n : ℕ) (rows : List Row) (plan arrivals : List ℕ) : Type 0 where
   pub well-formed : WellFormed n rows
   pub room-for-plan : planRoom n rows ≤ length plan

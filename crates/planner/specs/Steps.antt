@@ -5,46 +5,43 @@ use mathlib.Core.Path.{_≡_}
 use mathlib.Core.Bool.{cond}
 use mathlib.Core.List.{List}
 use lib.Dec.{eqb}
-use lib.ListN.{length, replicate}
-use Rattle.lists.specs.Lists.{total, largest}
+use lib.ListN.{length, getD, replicate}
+use Rattle.lists.specs.Lists.{build, total, largest}
 use Rattle.table.specs.declared.Row.{Row}
 use Rattle.table.specs.Table.{refuse}
 use Rattle.table.specs.Steps.{SameRows}
 use Rattle.slack.specs.declared.Stop.{Stop}
-use Rattle.slack.specs.Slack.{Traffic, planOf, arrivalsOf, stopOf}
-use Rattle.run.specs.Steps.{Ready}
+use Rattle.cells.specs.Rows.{Freight}
+use Rattle.cells.specs.Cells.{rowStop, rowPlan, rowArrivals}
 use Rattle.planner.specs.declared.Answer.{Answer}
 use Rattle.planner.specs.declared.Answer.the-variants.{Accepted, Refused}
 use Rattle.planner.specs.Planner.{summaryOf, answerToRows, areaAfter, thePlan, theArrivals}
 
--- A run can be planned, and its figures are small enough to be counted.
-pub record Runnable (T : Traffic) (left plan arrivals : List ℕ) : Type 0 where
-  pub ready : Ready T left plan arrivals
-  pub few : length left ≤ 512
-  pub small : length plan ≤ 32768
+-- The links that the cells of so many rows cross: each cell crosses its row's.
+unfoldable pub crossed : (len links : List ℕ) → ℕ
+crossed len links = total (build (length len) (λ i. getD len i 0 * getD links i 0))
 
 -- The answer to a run that ends so: acceptance with the summary where no row is late.
-unfoldable pub answerToRun : Traffic → List ℕ → Stop → Answer
-answerToRun T start stop =
+unfoldable pub answerToRun : Freight → Stop → Answer
+answerToRun F stop =
     cond (eqb (stop .row) 0)
-    (Accepted (summaryOf (length start) (total start) (T .nodes * largest (arrivalsOf T start (largest (T .due))))
-    (arrivalsOf T start (largest (T .due)))))
+    (Accepted (summaryOf (length (F .len)) (crossed (F .len) (F .links)) (F .nodes * largest (rowArrivals F (largest (F .due))))
+    (rowArrivals F (largest (F .due)))))
     (Refused (refuse 9 (stop .row) (stop .slot .0)))
 
 -- What planning a run in areas of just its size gives.
-pub record RunPlanned (T : Traffic) (start : List ℕ) (room : ℕ) (answer : Answer)
-    (plan′ arrivals′ : List ℕ) : Type 0 where
-  pub answers : answer ≡ answerToRun T start (stopOf T start (largest (T .due)))
-  pub carries : plan′ ≡ cond (eqb (stopOf T start (largest (T .due)) .row) 0) (planOf T start (largest (T .due)))
+pub record RunPlanned (F : Freight) (room : ℕ) (answer : Answer) (plan′ arrivals′ : List ℕ) : Type 0 where
+  pub answers : answer ≡ answerToRun F (rowStop F (largest (F .due)))
+  pub carries : plan′ ≡ cond (eqb (rowStop F (largest (F .due)) .row) 0) (rowPlan F (largest (F .due)))
       (replicate room 0)
-  pub arrives : arrivals′ ≡ cond (eqb (stopOf T start (largest (T .due)) .row) 0)
-      (arrivalsOf T start (largest (T .due))) (replicate (length start) 0)
+  pub arrives : arrivals′ ≡ cond (eqb (rowStop F (largest (F .due)) .row) 0) (rowArrivals F (largest (F .due)))
+      (replicate (length (F .len)) 0)
 
--- Three columns hold a table for a ring of 2 to 32 nodes.
-pub record Tabled (n : ℕ) (src dst due : List ℕ) : Type 0 where
+-- Four columns hold a table for a ring of 2 to 32 nodes.
+pub record Tabled (n : ℕ) (src dst len due : List ℕ) : Type 0 where
   pub least : 2 ≤ n
   pub most : n ≤ 32
-  pub same : SameRows src dst due
+  pub same : SameRows src dst len due
 
 -- What planning a well-formed table gives.
 pub record GoodPlanned (n : ℕ) (rows : List Row) (plan arrivals : List ℕ) (answer : Answer)

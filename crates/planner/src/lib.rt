@@ -1,23 +1,25 @@
 // The planner: judges a table, plans its run in the lent areas, and answers with the summary or a refusal.
 ghost use mathlib.Core.Path.{_≡_};
 ghost use lib.ListN.{length};
-ghost use Rattle.table.specs.Table.{judgeRows, refuse};
+ghost use Rattle.lists.specs.Lists.{total};
+ghost use Rattle.table.specs.Table.{judgeAll, refuse};
 ghost use Rattle.table.specs.Steps.{listed, rowsOf};
 ghost use Prim.Native.Nat.{_≤_};
-ghost use Rattle.slack.specs.Slack.{traffic};
+ghost use Rattle.cells.specs.Rows.{freight};
+ghost use Rattle.rows.specs.Steps.{Loaded};
 ghost use Rattle.planner.specs.Planner.{Planned, quotient, summaryOf};
-ghost use Rattle.planner.specs.Steps.{Runnable, RunPlanned, Tabled, GoodPlanned};
+ghost use Rattle.planner.specs.Steps.{crossed, RunPlanned, Tabled, GoodPlanned};
 use lent::load;
 use lists::greatest;
 use lists::sum;
 use lists::zeros;
 use ring::Slot;
-use run::run;
+use rows::run_rows;
 use table::Columns;
 use table::Refusal;
 use table::Row;
 use table::Verdict;
-use table::judge_rows;
+use table::judge_all;
 use table::measure;
 
 // What an accepted table comes to.
@@ -62,21 +64,36 @@ fn sum_up(sends: u32, time: u32, arrivals: &[u16]) -> Summary
     }
 }
 
+// The sends of rows with so many cells and links to go: one for each link of each cell.
+fn count_sends(len: &[u16], links: &[u16]) -> u32
+    requires { ⌜ (length (now links) ≡ length (now len)) × (total (now len) ≤ 1024) ⌝ }
+    ensures { λ r. ⌜ r ≡ crossed (now (len .entry)) (now (links .entry)) ⌝ }
+{
+    let mut sends = 0u32;
+    let mut i = 0;
+    while i < len.len() {
+        sends += len[i] as u32 * links[i] as u32;
+        i += 1;
+    }
+    sends
+}
+
 // Plans a run in areas of just its size, and answers with its figures or with the late row.
 fn plan_run(
     nodes: u16,
     dst: &[u16],
+    len: &[u16],
     due: &[u16],
-    left: &mut [u16],
+    links: &[u16],
     plan: &mut [u16],
     arrivals: &mut [u16],
 ) -> Answer
-    requires { ⌜ Runnable (traffic nodes (now dst) (now due)) (now left) (now plan) (now arrivals) ⌝ }
-    ensures { λ r. ⌜ RunPlanned (traffic nodes (now (dst .entry)) (now (due .entry))) (now (left .entry))
-        (length (now (plan .entry))) r (now (plan .exit)) (now (arrivals .exit)) ⌝ }
+    requires { ⌜ Loaded (freight nodes (now dst) (now len) (now due) (now links)) (now plan) (now arrivals) ⌝ }
+    ensures { λ r. ⌜ RunPlanned (freight nodes (now (dst .entry)) (now (len .entry)) (now (due .entry))
+        (now (links .entry))) (length (now (plan .entry))) r (now (plan .exit)) (now (arrivals .exit)) ⌝ }
 {
-    let sends = sum(left);
-    let stop = run(nodes, dst, due, left, plan, arrivals);
+    let sends = count_sends(len, links);
+    let stop = run_rows(nodes, dst, len, due, links, plan, arrivals);
     if stop.row == 0 {
         let time = nodes as u32 * greatest(arrivals) as u32;
         Answer::Accepted(sum_up(sends, time, arrivals))
@@ -106,13 +123,15 @@ fn plan_good(
     nodes: u16,
     src: &[u16],
     dst: &[u16],
+    len: &[u16],
     due: &[u16],
     plan: &mut [u16],
     arrivals: &mut [u16],
 ) -> Answer
-    requires { ⌜ Tabled nodes (now src) (now dst) (now due)
-        × (judgeRows nodes (rowsOf (now src) (now dst) (now due)) 0 ≡ Verdict.Good) ⌝ }
-    ensures { λ r. ⌜ GoodPlanned nodes (rowsOf (now (src .entry)) (now (dst .entry)) (now (due .entry)))
+    requires { ⌜ Tabled nodes (now src) (now dst) (now len) (now due)
+        × (judgeAll nodes (rowsOf (now src) (now dst) (now len) (now due)) ≡ Verdict.Good) ⌝ }
+    ensures { λ r. ⌜ GoodPlanned nodes
+        (rowsOf (now (src .entry)) (now (dst .entry)) (now (len .entry)) (now (due .entry)))
         (now (plan .entry)) (now (arrivals .entry)) r (now (plan .exit)) (now (arrivals .exit)) ⌝ }
 {
     let rows = src.len();
@@ -123,35 +142,38 @@ fn plan_good(
     if arrivals.len() < rows {
         return refusal(8);
     }
-    let mut left = zeros();
-    measure(nodes, src, dst, &mut left[..rows]);
+    let mut links = zeros();
+    measure(nodes, src, dst, &mut links[..rows]);
     plan_run(
         nodes,
         dst,
+        len,
         due,
-        &mut left[..rows],
+        &links[..rows],
         &mut plan[..need],
         &mut arrivals[..rows],
     )
 }
 
-// Plans the rows of three columns: refuses the first bad row, and else plans them.
+// Plans the rows of four columns: refuses the first bad row or too many cells, and else plans them.
 fn plan_rows(
     nodes: u16,
     src: &[u16],
     dst: &[u16],
+    len: &[u16],
     due: &[u16],
     plan: &mut [u16],
     arrivals: &mut [u16],
 ) -> Answer
-    requires { ⌜ Tabled nodes (now src) (now dst) (now due) ⌝ }
-    ensures { λ r. ⌜ Planned nodes (rowsOf (now (src .entry)) (now (dst .entry)) (now (due .entry))) (now (plan .entry))
-        (now (arrivals .entry)) r (now (plan .exit)) (now (arrivals .exit)) ⌝ }
+    requires { ⌜ Tabled nodes (now src) (now dst) (now len) (now due) ⌝ }
+    ensures { λ r. ⌜ Planned nodes
+        (rowsOf (now (src .entry)) (now (dst .entry)) (now (len .entry)) (now (due .entry)))
+        (now (plan .entry)) (now (arrivals .entry)) r (now (plan .exit)) (now (arrivals .exit)) ⌝ }
 {
-    let verdict = judge_rows(nodes, src, dst, due);
+    let verdict = judge_all(nodes, src, dst, len, due);
     match verdict {
         Verdict::Refused(r) => Answer::Refused(r),
-        Verdict::Good => plan_good(nodes, src, dst, due, plan, arrivals),
+        Verdict::Good => plan_good(nodes, src, dst, len, due, plan, arrivals),
     }
 }
 
@@ -177,11 +199,13 @@ pub fn plan_columns(
     }
     let src = columns.src;
     let dst = columns.dst;
+    let len = columns.len;
     let due = columns.due;
     plan_rows(
         nodes,
         &src[..rows],
         &dst[..rows],
+        &len[..rows],
         &due[..rows],
         plan,
         arrivals,

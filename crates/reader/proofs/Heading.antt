@@ -18,9 +18,9 @@ use Rattle.reader.specs.Steps.{RowsTaken, TextRead}
 use Rattle.lines.proofs.Seen.{Seen}
 
 -- a reading that is refused
-pub refused-read : (text : List ℕ) (lent : ℕ) (src dst due : List ℕ) (answer : Reading) (r : Refusal)
-    → answer ≡ Refused r → Refused r ≡ readingOf text lent → TextRead text lent answer src dst due
-refused-read text lent src dst due answer r e h =
+pub refused-read : (text : List ℕ) (lent : ℕ) (src dst len due : List ℕ) (answer : Reading) (r : Refusal)
+    → answer ≡ Refused r → Refused r ≡ readingOf text lent → TextRead text lent answer src dst len due
+refused-read text lent src dst len due answer r e h =
     record { judged = e ∙ h; rows = λ g f. absurd (refused-not r g (sym e ∙ f)) }
 
 module _ (text : List ℕ) (lent : ℕ) where
@@ -59,8 +59,8 @@ module _ (text : List ℕ) (lent : ℕ) where
         unfolding readingOfBody
         too-short h = sym (headed ∙ rw (le-ltb 512 rows few, lt-ltb lent rows h))
 
-        module _ (room : rows ≤ lent) (line : ℕ) (src dst due : List ℕ)
-            (taken : RowsTaken rows (drop third text) line src dst due) where
+        module _ (room : rows ≤ lent) (line : ℕ) (src dst len due : List ℕ)
+            (taken : RowsTaken rows (drop third text) line src dst len due) where
           bodied : readingOf text lent ≡ readingOfRows nodes rows (drop third text)
           unfolding readingOfBody
           bodied = headed ∙ rw (le-ltb 512 rows few, le-ltb lent rows room)
@@ -69,7 +69,7 @@ module _ (text : List ℕ) (lent : ℕ) where
           unfolding readingOfRows
           line-wrong d = sym (bodied ∙ rw (← taken .judged, ne-eqb line 0 d))
 
-          pub all-read : line ≡ 0 → TextRead text lent (Read (record { nodes = nodes; rows = rows })) src dst due
+          pub all-read : line ≡ 0 → TextRead text lent (Read (record { nodes = nodes; rows = rows })) src dst len due
           unfolding readingOfRows rowsRead
           all-read e =
               let so : readingOf text lent ≡ Read (record { nodes = nodes; rows = rows }) = bodied

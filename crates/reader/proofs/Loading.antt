@@ -9,7 +9,7 @@ use native.Mathlib.Numerals.{add-one}
 use native.Mathlib.Omega.{arith}
 use borrow.Author.Tests.{ne-eqb}
 use lib.ListN.{length, set, drop, length-drop, length-map, replicate, drop-of-length-le}
-use Rattle.table.specs.Table.{destinations, dues}
+use Rattle.table.specs.Table.{destinations, lengths, dues}
 use Rattle.table.specs.Steps.{column, columns, sources}
 use Rattle.table.specs.declared.Row.{Row}
 use Rattle.text.specs.Text.{row-keys, behindLines, wrongLine, rowsKeys, rowAt, rowsAt}
@@ -52,7 +52,7 @@ stored f col i text v h e so =
     ∙ column-more (map f (rowsAt i text)) i v (length-map (rowsAt i text) f ∙ rowsAt-length i text) h
     ∙ ap column all
 
-pub record Loaded (text : List ℕ) (from rows : ℕ) (src dst due : List ℕ) (at line i : ℕ) : Type 0 where
+pub record Loaded (text : List ℕ) (from rows : ℕ) (src dst len due : List ℕ) (at line i : ℕ) : Type 0 where
   pub inside : at ≤ length text
   pub few : i ≤ rows
   pub some : 1 ≤ line
@@ -61,13 +61,14 @@ pub record Loaded (text : List ℕ) (from rows : ℕ) (src dst due : List ℕ) (
   pub judged : wrongLine (rowsKeys rows) (drop from text) 3 ≡ wrongLine (rowsKeys (rows - i)) (drop at text) line
   pub srcs : src ≡ column (sources (rowsAt i (drop from text)))
   pub dsts : dst ≡ column (destinations (rowsAt i (drop from text)))
+  pub lens : len ≡ column (lengths (rowsAt i (drop from text)))
   pub due-slots : due ≡ column (dues (rowsAt i (drop from text)))
 
-pub none-loaded : (text : List ℕ) (from rows : ℕ) (src dst due : List ℕ) → from ≤ length text
-    → src ≡ replicate {A = ℕ} 512 0 → dst ≡ replicate {A = ℕ} 512 0 → due ≡ replicate {A = ℕ} 512 0
-    → Loaded text from rows src dst due from 3 0
-unfolding pastRows rowsAt sources destinations dues
-none-loaded text from rows src dst due h a b d =
+pub none-loaded : (text : List ℕ) (from rows : ℕ) (src dst len due : List ℕ) → from ≤ length text
+    → src ≡ replicate {A = ℕ} 512 0 → dst ≡ replicate {A = ℕ} 512 0 → len ≡ replicate {A = ℕ} 512 0
+    → due ≡ replicate {A = ℕ} 512 0 → Loaded text from rows src dst len due from 3 0
+unfolding pastRows rowsAt sources destinations lengths dues
+none-loaded text from rows src dst len due h a b l d =
     let all : rows - 0 ≡ rows = omega arith in
     record {
       inside = h;
@@ -78,11 +79,12 @@ none-loaded text from rows src dst due h a b d =
       judged = rw all;
       srcs = a ∙ column-none;
       dsts = b ∙ column-none;
+      lens = l ∙ column-none;
       due-slots = d ∙ column-none;
     }
 
-module _ {text : List ℕ} {from rows : ℕ} {src dst due : List ℕ} {at line i : ℕ}
-    (k : Loaded text from rows src dst due at line i) where
+module _ {text : List ℕ} {from rows : ℕ} {src dst len due : List ℕ} {at line i : ℕ}
+    (k : Loaded text from rows src dst len due at line i) where
   module _ (more : i < rows) where
     abbrev keys-behind : List (List ℕ)
     keys-behind = rowsKeys (rows - (i + 1))
@@ -92,9 +94,9 @@ module _ {text : List ℕ} {from rows : ℕ} {src dst due : List ℕ} {at line i
     keys-left = let left : rows - i ≡ suc (rows - (i + 1)) = omega arith in rw left
 
     pub more-loaded : (r : Row) (n : ℕ) → rows ≤ 512 → Passed text at r n
-        → Loaded text from rows (set src i (r .src)) (set dst i (r .dst)) (set due i (r .due)) n
+        → Loaded text from rows (set src i (r .src)) (set dst i (r .dst)) (set len i (r .len)) (set due i (r .due)) n
         (line + length row-keys) (i + 1)
-    unfolding sources destinations dues
+    unfolding sources destinations lengths dues
     more-loaded r n few p =
         let here : r ≡ rowAt (pastRows i (drop from text)) = p .row ∙ ap rowAt (k .rest) in
         record {
@@ -112,13 +114,16 @@ module _ {text : List ℕ} {from rows : ℕ} {src dst due : List ℕ} {at line i
           dsts =
               stored (λ q. q .dst) dst i (drop from text) (r .dst) (omega arith) (ap (λ (q : Row). q .dst) here)
               (k .dsts);
+          lens =
+              stored (λ q. q .len) len i (drop from text) (r .len) (omega arith) (ap (λ (q : Row). q .len) here)
+              (k .lens);
           due-slots =
               stored (λ q. q .due) due i (drop from text) (r .due) (omega arith) (ap (λ (q : Row). q .due) here)
               (k .due-slots);
         }
 
     pub stopped-at : (p : ℕ) → (p < length row-keys) × (rightLines row-keys (drop at text) ≡ p)
-        → RowsTaken rows (drop from text) (line + p) src dst due
+        → RowsTaken rows (drop from text) (line + p) src dst len due
     stopped-at p b =
         let stop = broken-on row-keys keys-behind (drop at text) line (omega (arith, b .0, b .1))
         ∙ ap (λ (n : ℕ). line + n) (b .1) in
@@ -128,7 +133,7 @@ module _ {text : List ℕ} {from rows : ℕ} {src dst due : List ℕ} {at line i
     none-left : rows - i ≡ 0
     none-left = omega arith
 
-    pub left-over : at < length text → RowsTaken rows (drop from text) line src dst due
+    pub left-over : at < length text → RowsTaken rows (drop from text) line src dst len due
     unfolding rowsKeys wrongLine
     left-over h =
         let some : (length (drop at text) ≡ 0) → ⊥ = λ e. omega (arith, length-drop at text) in
@@ -138,12 +143,12 @@ module _ {text : List ℕ} {from rows : ℕ} {src dst due : List ℕ} {at line i
               λ e. absurd (omega (arith, k .some));
         }
 
-    pub all-loaded : length text ≤ at → RowsTaken rows (drop from text) 0 src dst due
+    pub all-loaded : length text ≤ at → RowsTaken rows (drop from text) 0 src dst len due
     unfolding rowsKeys wrongLine columns
     all-loaded h =
         let all : i ≡ rows = omega (arith, k .few) in
         record {
           judged = sym (k .judged ∙ rw (none-left, drop-of-length-le text h));
           rows =
-              λ e. rw (k .srcs, k .dsts, k .due-slots, all);
+              λ e. rw (k .srcs, k .dsts, k .lens, k .due-slots, all);
         }

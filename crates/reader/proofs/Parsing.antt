@@ -35,8 +35,8 @@ no-rows : (rows : List Row) → length rows ≡ 0 → [] ≡ rows
 no-rows [] e = refl
 no-rows (r ∷ rs) e = absurd (omega arith)
 
-module _ {text : List ℕ} {lent : ℕ} {answer : Reading} {src dst due : List ℕ}
-    (t : TextRead text lent answer src dst due) (n : ℕ) (count : n ≡ filled answer) where
+module _ {text : List ℕ} {lent : ℕ} {answer : Reading} {src dst len due : List ℕ}
+    (t : TextRead text lent answer src dst len due) (n : ℕ) (count : n ≡ filled answer) where
   counted-is : n ≡ length (rowsRead text lent)
   counted-is = count ∙ ap filled (t .judged) ∙ sym (filled-rows text lent)
 
@@ -56,10 +56,10 @@ module _ {text : List ℕ} {lent : ℕ} {answer : Reading} {src dst due : List �
   none-parsed cols z e = parsed cols (e ∙ ap columns (no-rows (rowsRead text lent) (sym counted-is ∙ z)))
 
   pub some-parsed : (n ≡ 0 → ⊥) → TextParsed text lent
-      (record { reading = answer; rows = n; columns = held src dst due })
+      (record { reading = answer; rows = n; columns = held src dst len due })
   some-parsed d = go answer refl
     where
       go : (a : Reading) → answer ≡ a
-          → TextParsed text lent (record { reading = answer; rows = n; columns = held src dst due })
-      go (Read h) e = parsed (held src dst due) (t .rows h e)
+          → TextParsed text lent (record { reading = answer; rows = n; columns = held src dst len due })
+      go (Read h) e = parsed (held src dst len due) (t .rows h e)
       go (Refused r) e = absurd (d (count ∙ ap filled e))

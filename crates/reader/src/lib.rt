@@ -21,19 +21,21 @@ use text::Parsed;
 use text::ROW_LINES;
 use text::Reading;
 
-// Reads the lines of so many rows into three columns: the number of the first wrong line, 0 where none is.
+// Reads the lines of so many rows into four columns: the number of the first wrong line, 0 where none is.
 fn read_rows(
     text: &[u8],
     from: usize,
     rows: usize,
     src: &mut [u16; 512],
     dst: &mut [u16; 512],
+    len: &mut [u16; 512],
     due: &mut [u16; 512],
 ) -> u16
     requires { ⌜ (from ≤ length (now text)) × (rows ≤ 512) × (now src ≡ replicate {A = ℕ} 512 0)
-        × (now dst ≡ replicate {A = ℕ} 512 0) × (now due ≡ replicate {A = ℕ} 512 0) ⌝ }
+        × (now dst ≡ replicate {A = ℕ} 512 0) × (now len ≡ replicate {A = ℕ} 512 0)
+        × (now due ≡ replicate {A = ℕ} 512 0) ⌝ }
     ensures { λ r. ⌜ RowsTaken rows (drop from (now (text .entry))) r (now (src .exit)) (now (dst .exit))
-        (now (due .exit)) ⌝ }
+        (now (len .exit)) (now (due .exit)) ⌝ }
 {
     let mut at = from;
     let mut line = 3u16;
@@ -44,6 +46,7 @@ fn read_rows(
             RowSeen::Whole(row, next) => {
                 src[i] = row.src;
                 dst[i] = row.dst;
+                len[i] = row.len;
                 due[i] = row.due;
                 at = next;
             }
@@ -68,17 +71,19 @@ fn refused(number: u16, row: u16) -> Reading
     })
 }
 
-// Reads a text into three columns.
+// Reads a text into four columns.
 fn read_columns(
     text: &[u8],
     lent: usize,
     src: &mut [u16; 512],
     dst: &mut [u16; 512],
+    len: &mut [u16; 512],
     due: &mut [u16; 512],
 ) -> Reading
     requires { ⌜ (now src ≡ replicate {A = ℕ} 512 0) × (now dst ≡ replicate {A = ℕ} 512 0)
-        × (now due ≡ replicate {A = ℕ} 512 0) ⌝ }
-    ensures { λ r. ⌜ TextRead (now (text .entry)) lent r (now (src .exit)) (now (dst .exit)) (now (due .exit)) ⌝ }
+        × (now len ≡ replicate {A = ℕ} 512 0) × (now due ≡ replicate {A = ℕ} 512 0) ⌝ }
+    ensures { λ r. ⌜ TextRead (now (text .entry)) lent r (now (src .exit)) (now (dst .exit)) (now (len .exit))
+        (now (due .exit)) ⌝ }
 {
     let Item::Good(nodes, second) = line_at(text, 0, b"nodes=") else {
         return refused(20, 1);
@@ -93,7 +98,7 @@ fn read_columns(
     if lent < count {
         return refused(21, 0);
     }
-    let line = read_rows(text, third, count, src, dst, due);
+    let line = read_rows(text, third, count, src, dst, len, due);
     if line == 0 {
         return Reading::Read(Header { nodes, rows });
     }
@@ -116,8 +121,9 @@ pub fn parse(text: &[u8], lent: usize) -> Parsed
 {
     let mut src = zeros();
     let mut dst = zeros();
+    let mut len = zeros();
     let mut due = zeros();
-    let reading = read_columns(text, lent, &mut src, &mut dst, &mut due);
+    let reading = read_columns(text, lent, &mut src, &mut dst, &mut len, &mut due);
     let rows = rows_filled(reading);
     if rows == 0 {
         return Parsed {
@@ -129,7 +135,7 @@ pub fn parse(text: &[u8], lent: usize) -> Parsed
     Parsed {
         reading,
         rows,
-        columns: Columns { src, dst, due },
+        columns: Columns { src, dst, len, due },
     }
 }
 

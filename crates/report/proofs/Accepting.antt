@@ -13,20 +13,20 @@ use Rattle.table.specs.declared.Columns.{Columns}
 use Rattle.table.specs.declared.Refusal.{Refusal}
 use Rattle.table.specs.declared.Verdict.{Verdict}
 use Rattle.table.specs.declared.Verdict.the-variants as verdict
-use Rattle.table.specs.Table.{judge, WellFormed, dues, distances, lastDue}
+use Rattle.table.specs.Table.{judge, WellFormed, dues, lastDue}
 use Rattle.table.specs.Steps.{listed}
 use Rattle.table.proofs.Rows.{length-listed}
 use Rattle.table.proofs.Judging.{its-dues}
-use Rattle.slack.proofs.Rule.{plan-length}
+use Rattle.best.proofs.Best.{row-plan-long}
 use Rattle.planner.specs.declared.Answer.{Answer}
 use Rattle.planner.specs.declared.Summary.{Summary}
 use Rattle.planner.specs.declared.Answer.the-variants.{Accepted, Refused}
-use Rattle.planner.specs.Planner.{trafficOf, thePlan, theArrivals, answerToRows, afterVerdict, theAnswer, areaAfter}
+use Rattle.planner.specs.Planner.{freightOf, thePlan, theArrivals, answerToRows, afterVerdict, theAnswer, areaAfter}
 use Rattle.planner.specs.Planner.{Planned}
 use Rattle.planner.proofs.Answering.{arrivals-long}
 use Rattle.planner.proofs.Good.{soon}
 use Rattle.planner.proofs.Judged.{Sound, sound, listed-fronts, fronts-tabled}
-use Rattle.planner.proofs.Promises.{tabled, all-good, distances-long}
+use Rattle.planner.proofs.Promises.{tabled, all-good, lengths-long, table-laden}
 use Rattle.report.specs.Report.{verdictLines, acceptedText, answerText, tableText}
 use Rattle.text.specs.Steps.{Room}
 use Rattle.report.specs.Steps.{Slotted}
@@ -52,11 +52,11 @@ module _ (n : ℕ) (rows : List Row) (s : Summary) (is : theAnswer n rows 32768 
 
   pub plan-long : length (thePlan n rows) ≡ n * lastDue rows
   unfolding thePlan
-  plan-long = plan-length (trafficOf n rows) (distances n rows) (lastDue rows) ∙ mul-comm (lastDue rows) n
+  plan-long = row-plan-long (table-laden n rows well) (lastDue rows) ∙ mul-comm (lastDue rows) n
 
   pub arrivals-each : length (theArrivals n rows) ≡ length rows
   unfolding theArrivals
-  arrivals-each = arrivals-long (trafficOf n rows) (distances n rows) (lastDue rows) ∙ distances-long n rows
+  arrivals-each = arrivals-long (freightOf n rows) (lastDue rows) ∙ lengths-long rows
 
 -- No output for a table is longer than the area that is lent for it.
 pub table-most : (n : ℕ) (rows : List Row) → length (tableText n rows) ≤ 212992
@@ -80,6 +80,7 @@ pub record Answered (n count : ℕ) (c : Columns) (r : Answer) (plan′ arrivals
   pub out : Planned n (listed count c) plan arrivals r plan′ arrivals′
   pub src-all : length (c .src) ≡ 512
   pub dst-all : length (c .dst) ≡ 512
+  pub len-all : length (c .len) ≡ 512
   pub due-all : length (c .due) ≡ 512
 
 module _ {n count : ℕ} {c : Columns} {r : Answer} {plan′ arrivals′ : List ℕ}
@@ -128,9 +129,9 @@ module _ {n count : ℕ} {c : Columns} {r : Answer} {plan′ arrivals′ : List 
     its-due : dues table ≡ take count (c .due)
     its-due =
         let same = fronts-tabled n count c (size .least) (size .most) few-rows (k .src-all) (k .dst-all)
-        (k .due-all) .same in
+        (k .len-all) (k .due-all) .same in
         ap dues (listed-fronts count c (omega (arith, few-rows, k .src-all)))
-        ∙ its-dues (take count (c .src)) (take count (c .dst)) (take count (c .due)) same
+        ∙ its-dues (take count (c .src)) (take count (c .dst)) (take count (c .len)) (take count (c .due)) same
 
     pub due-fits : count ≤ length (c .due)
     due-fits = omega (arith, few-rows, k .due-all)

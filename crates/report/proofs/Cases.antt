@@ -1,5 +1,5 @@
--- The definitions at work: case B of document 01 as input, and its output byte by byte; and a text and a table that are
--- refused.
+-- The definitions at work: case B of document 01 as input, and its output byte by byte; a row of two cells; and a text
+-- and a table that are refused.
 -- Assumes nothing.
 use mathlib.Core.Path.{_≡_, refl}
 use mathlib.Core.List.{List, [], _∷_, map}
@@ -7,10 +7,14 @@ use Prim.Native.Nat.{ℕ}
 use lib.Ieee.{div, ofInt}
 use Rattle.lists.specs.Lists.{total, largest}
 use Rattle.ring.specs.Ring.{distance, standing}
-use Rattle.table.specs.Table.{rowRefusal, judgeRows, judge, destinations, dues, distances, lastDue}
+use Rattle.table.specs.Table.{rowRefusal, judgeRows, cellsIn, afterRows, judgeAll, judge, destinations, lengths, dues}
+use Rattle.table.specs.Table.{distances, sendsOf, lastDue}
 use Rattle.table.specs.Steps.{sources}
 use Rattle.slack.specs.Slack.{underWay, place, slackOf, slack, isLate, lateFrom, lateRow, better, pick, slotOf, moved}
 use Rattle.slack.specs.Slack.{stateAt, planOf, deliveredFrom, arrivalsOf, anyUnderWay, stopFrom, stopOf}
+use Rattle.cells.specs.Rows.{perCell, ownersOf, owners, laidOut, cellLinks}
+use Rattle.cells.specs.Cells.{duesOf, cellDues, cellTraffic, ownerOf, toldBy, toldInRows, rowPlan, endBy, rowStop}
+use Rattle.cells.specs.Cells.{ofLastCells, rowArrivals}
 use Rattle.planner.specs.Planner.{ending, thePlan, theArrivals, quotient, summaryOf, theSummary, answerToRows}
 use Rattle.planner.specs.Planner.{afterVerdict, theAnswer}
 use Rattle.text.specs.Text.{width, lastDigits, numeral, line, row-keys, starts, digitsAt, extended, itemValue, itemGood}
@@ -33,13 +37,36 @@ case-b-output =
     115 ∷ 101 ∷ 110 ∷ 100 ∷ 61 ∷ 49 ∷ 44 ∷ 50 ∷ 44 ∷ 48 ∷ 44 ∷ 48 ∷ 10 ∷
     115 ∷ 101 ∷ 110 ∷ 100 ∷ 61 ∷ 48 ∷ 44 ∷ 48 ∷ 44 ∷ 50 ∷ 44 ∷ 48 ∷ 10 ∷ []
 
--- Case E, with a row that is late at once: nodes=4, rows=1, src=0, dst=2, due=1.
+-- A row of two cells, one behind the other: nodes=4, rows=1, src=0, dst=2, len=2, due=3; and what is printed for it, a
+-- line in each line here: both cells are named by their row, and it arrives with the second.
+abbrev pub two-cells-text : List ℕ
+two-cells-text =
+    110 ∷ 111 ∷ 100 ∷ 101 ∷ 115 ∷ 61 ∷ 52 ∷ 10 ∷
+    114 ∷ 111 ∷ 119 ∷ 115 ∷ 61 ∷ 49 ∷ 10 ∷
+    115 ∷ 114 ∷ 99 ∷ 61 ∷ 48 ∷ 10 ∷
+    100 ∷ 115 ∷ 116 ∷ 61 ∷ 50 ∷ 10 ∷
+    108 ∷ 101 ∷ 110 ∷ 61 ∷ 50 ∷ 10 ∷
+    100 ∷ 117 ∷ 101 ∷ 61 ∷ 51 ∷ 10 ∷ []
+
+abbrev pub two-cells-output : List ℕ
+two-cells-output =
+    97 ∷ 110 ∷ 115 ∷ 119 ∷ 101 ∷ 114 ∷ 61 ∷ 48 ∷ 10 ∷
+    114 ∷ 111 ∷ 119 ∷ 61 ∷ 48 ∷ 10 ∷
+    115 ∷ 108 ∷ 111 ∷ 116 ∷ 61 ∷ 48 ∷ 10 ∷
+    108 ∷ 97 ∷ 115 ∷ 116 ∷ 61 ∷ 51 ∷ 10 ∷
+    97 ∷ 114 ∷ 114 ∷ 105 ∷ 118 ∷ 101 ∷ 61 ∷ 51 ∷ 10 ∷
+    115 ∷ 101 ∷ 110 ∷ 100 ∷ 61 ∷ 49 ∷ 44 ∷ 48 ∷ 44 ∷ 48 ∷ 44 ∷ 48 ∷ 10 ∷
+    115 ∷ 101 ∷ 110 ∷ 100 ∷ 61 ∷ 49 ∷ 44 ∷ 49 ∷ 44 ∷ 48 ∷ 44 ∷ 48 ∷ 10 ∷
+    115 ∷ 101 ∷ 110 ∷ 100 ∷ 61 ∷ 48 ∷ 44 ∷ 49 ∷ 44 ∷ 48 ∷ 44 ∷ 48 ∷ 10 ∷ []
+
+-- Case E, with a row that is late at once: nodes=4, rows=1, src=0, dst=2, len=1, due=1.
 abbrev pub case-e-text : List ℕ
 case-e-text =
     110 ∷ 111 ∷ 100 ∷ 101 ∷ 115 ∷ 61 ∷ 52 ∷ 10 ∷
     114 ∷ 111 ∷ 119 ∷ 115 ∷ 61 ∷ 49 ∷ 10 ∷
     115 ∷ 114 ∷ 99 ∷ 61 ∷ 48 ∷ 10 ∷
     100 ∷ 115 ∷ 116 ∷ 61 ∷ 50 ∷ 10 ∷
+    108 ∷ 101 ∷ 110 ∷ 61 ∷ 49 ∷ 10 ∷
     100 ∷ 117 ∷ 101 ∷ 61 ∷ 49 ∷ 10 ∷ []
 
 -- A text whose line 2 is missing: nodes=4.
@@ -58,6 +85,7 @@ pub record Case : Type 0 where
 abbrev pub cases : List Case
 cases =
     record { text = case-b-text; output = case-b-output } ∷
+    record { text = two-cells-text; output = two-cells-output } ∷
     -- answer=9, row=1, slot=0
     record {
       text = case-e-text;
@@ -80,10 +108,11 @@ cases =
 -- Every text comes out so.
 pub printed : map (λ (c : Case). outputOf (c .text)) cases ≡ map (λ (c : Case). c .output) cases
 unfolding total largest distance standing
-    rowRefusal judgeRows judge sources destinations dues distances lastDue
+    rowRefusal judgeRows cellsIn afterRows judgeAll judge sources destinations lengths dues distances lastDue
     underWay place slackOf slack isLate lateFrom lateRow better pick slotOf moved stateAt planOf deliveredFrom
-    arrivalsOf anyUnderWay stopFrom stopOf
-    ending thePlan theArrivals quotient summaryOf theSummary answerToRows afterVerdict theAnswer div ofInt
+    arrivalsOf anyUnderWay stopFrom stopOf perCell ownersOf owners laidOut cellLinks duesOf cellDues cellTraffic ownerOf
+    toldBy toldInRows rowPlan endBy rowStop ofLastCells rowArrivals
+    ending thePlan theArrivals sendsOf quotient summaryOf theSummary answerToRows afterVerdict theAnswer div ofInt
     width lastDigits numeral line starts digitsAt extended itemValue itemGood itemRest row-keys valuesAt behindLines
     wrongLine rowsKeys rowAt rowsAt nodesIn rowsIn bodyOf readingOfRows readingOfBody readingOf rowsRead
     verdictLines arriveLines markBefore parted sendLine sendLines acceptedText answerText tableText readingText outputOf

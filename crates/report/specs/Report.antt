@@ -48,7 +48,7 @@ records-lent = 512
 
 -- The bytes of standard input that the program reads at most.
 abbrev pub input-most : ℕ
-input-most = 16384
+input-most = 24576
 
 -- The bytes that are enough for every output.
 abbrev pub output-most : ℕ

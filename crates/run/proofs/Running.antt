@@ -29,6 +29,8 @@ use Rattle.slack.proofs.Rule.{pick-least, plan-length, state-length, state-on-r
 use Rattle.slack.proofs.Rule.{moved-entry, none-under-way}
 use Rattle.slot.specs.Steps.{named, stamped}
 use Rattle.slot.proofs.Sending.{named-there, named-under-way}
+use Rattle.cells.specs.Cells.{ownerOf, toldBy, endBy}
+use Rattle.cells.proofs.Telling.{told-long, told-joined, told-idle, cell-named, none-named, stop-cell}
 use Rattle.run.specs.Steps.{stampedBy, Ready, Walked, Ran}
 
 -- links to go at an instant
@@ -180,8 +182,8 @@ front a xs f cleared ys l e c =
     rw (t, c, m, d, append-nil)
 
 -- With its arrivals cleared a run can be planned as before.
-pub cleared-ready : {T : Traffic} {start plan lent arrivals : List ℕ}
-    → Ready T start plan lent → arrivals ≡ replicate {A = ℕ} (length lent) 0 → Ready T start plan arrivals
+pub cleared-ready : {T : Traffic} {owner start plan lent arrivals : List ℕ}
+    → Ready T owner start plan lent → arrivals ≡ replicate {A = ℕ} (length lent) 0 → Ready T owner start plan arrivals
 cleared-ready {lent} ready cleared =
     record {
       ring = ready .ring;
@@ -189,22 +191,24 @@ cleared-ready {lent} ready cleared =
       soon = ready .soon;
       room = ready .room;
       rows = ap length cleared ∙ length-replicate (length lent) 0 ∙ ready .rows;
+      owned = ready .owned;
+      named = ready .named;
     }
 
 -- What there is once the walk over cleared arrivals has been left.
-pub record Over (T : Traffic) (start plan₀ : List ℕ) (stop : Stop) (left plan arrivals : List ℕ) : Type 0 where
+pub record Over (T : Traffic) (owner start plan₀ : List ℕ) (stop : Stop) (left plan arrivals : List ℕ) : Type 0 where
   pub lent : List ℕ
   pub arrivals₀ : List ℕ
   pub figures : List ℤ
-  pub ready : Ready T start plan₀ lent
+  pub ready : Ready T owner start plan₀ lent
   pub cleared : arrivals₀ ≡ replicate {A = ℕ} (length lent) 0
-  pub walked : Walked T start plan₀ arrivals₀ stop left figures plan arrivals
+  pub walked : Walked T owner start plan₀ arrivals₀ stop left figures plan arrivals
   pub plan-long : length plan ≡ length plan₀
   pub arrivals-long : length arrivals ≡ length arrivals₀
 
 -- What `run` leaves, from what `walk` left.
-module _ {T : Traffic} {start plan₀ : List ℕ} {stop : Stop} {left plan arrivals : List ℕ}
-    (o : Over T start plan₀ stop left plan arrivals) where
+module _ {T : Traffic} {owner start plan₀ : List ℕ} {stop : Stop} {left plan arrivals : List ℕ}
+    (o : Over T owner start plan₀ stop left plan arrivals) where
   abbrev last : ℕ
   last = largest (T .due)
 
@@ -223,6 +227,19 @@ module _ {T : Traffic} {start plan₀ : List ℕ} {stop : Stop} {left plan arriv
   cleared-all : o .arrivals₀ ≡ replicate {A = ℕ} (length start) 0
   cleared-all = o .cleared ∙ rw (o .ready .rows)
 
+  -- The cell with which the walk was left is one of those that have an owner, or none.
+  pub known-cell : stop .row ≤ length owner
+  known-cell = rw (o .walked .stops) (omega (arith, stop-cell T start last, o .ready .owned))
+
+  -- where the run ended, told in rows
+  row-is : (r : Stop) → r ≡ endBy owner stop → r .row ≡ ownerOf owner (stop .row)
+  unfolding endBy
+  row-is r e = ap (λ s. s .row) e
+
+  slot-is : (r : Stop) → r ≡ endBy owner stop → r .slot .0 ≡ end
+  unfolding endBy
+  slot-is r e = ap (λ s. s .slot .0) e
+
   module _ (on-time : stop .row ≡ 0) where
     done : Delivered T start end
     done i h =
@@ -236,36 +253,45 @@ module _ {T : Traffic} {start plan₀ : List ℕ} {stop : Stop} {left plan arriv
 
     module _ (rest : List ℕ)
         (idle : rest ≡ replicate {A = ℕ} (length (take behind (drop (end * T .nodes) plan))) 0) where
-      whole-plan : putMid (end * T .nodes) behind plan rest ≡ planOf T start last
+      whole-plan : putMid (end * T .nodes) behind plan rest ≡ toldBy owner (planOf T start last)
       whole-plan =
           let e : last ≡ end + (last - end) = omega (arith, in-time) in
           let links = split (T .nodes) end (last - end) last e in
           let k : behind ≡ (last - end) * T .nodes = omega (arith, links, o .plan-long, o .ready .room) in
           let old = drop (end * T .nodes) plan₀ in
-          front (end * T .nodes) plan (planOf T start end) rest old (plan-length T start end) (o .walked .carries) idle
-          ∙ rw k (sym (ap (planOf T start) e ∙ idle-on T start end (last - end) done))
+          let sent = planOf T start end in
+          let long = told-long owner sent ∙ plan-length T start end in
+          let none = replicate {A = ℕ} ((last - end) * T .nodes) 0 in
+          let all : planOf T start last ≡ sent ++ none
+          = ap (planOf T start) e ∙ idle-on T start end (last - end) done in
+          front (end * T .nodes) plan (toldBy owner sent) rest old long (o .walked .carries) idle
+          ∙ rw (k, all, told-joined owner sent none, told-idle owner ((last - end) * T .nodes))
 
       stamps-arrive : stampedBy T start (o .arrivals₀) end ≡ arrivalsOf T start last
       stamps-arrive = all-stamped T start (o .arrivals₀) (o .ready .ring) cleared-all end last in-time done
 
-      pub accepted : Ran T start (length plan₀) stop left (putMid (end * T .nodes) behind plan rest) arrivals
-      accepted =
+      pub accepted : (r : Stop) → r ≡ endBy owner stop
+          → Ran T owner start (length plan₀) r left (putMid (end * T .nodes) behind plan rest) arrivals
+      accepted r e =
+          let none : r .row ≡ 0 = row-is r e ∙ ap (ownerOf owner) on-time ∙ none-named owner in
           record {
-            stops = o .walked .stops;
-            leaves = o .walked .state;
-            carries = whole-plan ∙ rw on-time;
-            arrives = o .walked .stamps ∙ stamps-arrive ∙ rw on-time;
+            stops = e ∙ ap (endBy owner) (o .walked .stops);
+            leaves = o .walked .state ∙ ap (stateAt T start) (sym (slot-is r e));
+            carries = whole-plan ∙ rw none;
+            arrives = o .walked .stamps ∙ stamps-arrive ∙ rw none;
           }
 
   pub refused : (stop .row ≡ 0 → ⊥) → (plan′ arrivals′ : List ℕ)
       → plan′ ≡ replicate {A = ℕ} (length plan) 0 → arrivals′ ≡ replicate {A = ℕ} (length arrivals) 0
-      → Ran T start (length plan₀) stop left plan′ arrivals′
-  refused is-late plan′ arrivals′ p a =
+      → (r : Stop) → r ≡ endBy owner stop → Ran T owner start (length plan₀) r left plan′ arrivals′
+  refused is-late plan′ arrivals′ p a r e =
       let l : length arrivals ≡ length start
       = o .arrivals-long ∙ ap length cleared-all ∙ length-replicate (length start) 0 in
+      let some : r .row ≡ 0 → ⊥
+      = λ z. is-late (cell-named owner (o .ready .named) (stop .row) known-cell (sym (row-is r e) ∙ z)) in
       record {
-        stops = o .walked .stops;
-        leaves = o .walked .state;
-        carries = p ∙ rw (o .plan-long, ne-eqb (stop .row) 0 is-late);
-        arrives = a ∙ rw (l, ne-eqb (stop .row) 0 is-late);
+        stops = e ∙ ap (endBy owner) (o .walked .stops);
+        leaves = o .walked .state ∙ ap (stateAt T start) (sym (slot-is r e));
+        carries = p ∙ rw (o .plan-long, ne-eqb (r .row) 0 some);
+        arrives = a ∙ rw (l, ne-eqb (r .row) 0 some);
       }

@@ -21,14 +21,17 @@ use lib.Seq.{take-at, drop-at, drop-drop, length-take-le}
 use Rattle.lists.specs.Lists.{largest}
 use Rattle.lists.proofs.Build.{length-build}
 use Rattle.lists.proofs.Figures.{at-most-largest}
-use Rattle.slack.specs.Slack.{Traffic, OnRing, isLate, lateFrom, lateRow, slotOf, moved, stateAt, planOf}
+use Rattle.slack.specs.Slack.{Traffic, traffic, OnRing, isLate, lateFrom, lateRow, slotOf, moved, stateAt, planOf}
 use Rattle.slack.specs.Slack.{anyUnderWay, stopFrom, stopOf}
 use Rattle.slack.specs.Figure.{figuresOf}
 use Rattle.slack.specs.declared.Stop.{Stop}
 use Rattle.slack.proofs.Rule.{slot-length, plan-length, state-length, state-on-ring, some-under-way, none-under-way}
 use Rattle.slack.proofs.Rule.{late-none, none-late, not-late-then, then-not-late}
 use Rattle.slack.proofs.Figures.{figures-long}
-use Rattle.slot.specs.Steps.{stamped, Slotted, SlotPlanned}
+use Rattle.slot.specs.Steps.{stamped, Slotted, SlotPlanned, SlotPlannedBy}
+use Rattle.cells.specs.Cells.{toldBy}
+use Rattle.cells.specs.Steps.{AtMost}
+use Rattle.cells.proofs.Telling.{told-long, told-joined, slot-at-most}
 use Rattle.run.specs.Steps.{stampedBy, Ready, Walked}
 
 -- the search for the lowest late row, one row further on
@@ -86,26 +89,36 @@ module _ (T : Traffic) (start : List ℕ) (t : ℕ) where
   unfolding stampedBy
   stamps-more list = rw add-one
 
-  -- the plan after t slots, over what the area held
-  abbrev plan-then : List ℕ → List ℕ
-  plan-then plan = planOf T start t ++ drop (t * T .nodes) plan
+  -- the plan after t slots, told in rows, over what the area held
+  module _ (owner plan : List ℕ) where
+    abbrev plan-then : List ℕ
+    plan-then = toldBy owner (planOf T start t) ++ drop (t * T .nodes) plan
 
-  plan-more : (plan : List ℕ)
-      → putMid (t * T .nodes) (t * T .nodes + T .nodes - t * T .nodes) (plan-then plan) slot-then
-      ≡ planOf T start (t + 1) ++ drop ((t + 1) * T .nodes) plan
-  unfolding planOf
-  plan-more plan =
-      let k : t * T .nodes + T .nodes - t * T .nodes ≡ T .nodes = omega arith in
-      let m : t * T .nodes + T .nodes ≡ (t + 1) * T .nodes = omega arith in
-      let front = planOf T start t in
-      let rest = drop (t * T .nodes) plan in
-      let first = take-at front rest (t * T .nodes) (plan-length T start t) in
-      let behind = drop-at front rest (t * T .nodes) (plan-length T start t) in
-      rw (k, first, behind, drop-drop, m, add-one, append-assoc)
+    plan-more : putMid (t * T .nodes) (t * T .nodes + T .nodes - t * T .nodes) plan-then (toldBy owner slot-then)
+        ≡ toldBy owner (planOf T start (t + 1)) ++ drop ((t + 1) * T .nodes) plan
+    unfolding planOf
+    plan-more =
+        let k : t * T .nodes + T .nodes - t * T .nodes ≡ T .nodes = omega arith in
+        let m : t * T .nodes + T .nodes ≡ (t + 1) * T .nodes = omega arith in
+        let front = toldBy owner (planOf T start t) in
+        let rest = drop (t * T .nodes) plan in
+        let long = told-long owner (planOf T start t) ∙ plan-length T start t in
+        let first = take-at front rest (t * T .nodes) long in
+        let behind = drop-at front rest (t * T .nodes) long in
+        rw (k, first, behind, drop-drop, m, add-one, told-joined owner (planOf T start t) slot-then, append-assoc)
 
 stamped-length : (slot : List ℕ) (t : ℕ) (list : List ℕ) → length (stamped slot t list) ≡ length list
 unfolding stamped
 stamped-length slot t list = length-build (length list) _
+
+-- A slot that was planned can be told: it names no cell that has no owner.
+pub can-tell : {n t : ℕ} {dst left slot₀ arrivals : List ℕ} {figures : List ℤ}
+    → Slotted n dst t left figures slot₀ arrivals → (owner : List ℕ) → length owner ≡ length left
+    → (slot left′ arrivals′ : List ℕ) (figures′ : List ℤ)
+    → SlotPlannedBy n dst t left figures arrivals slot left′ figures′ arrivals′ → AtMost (length owner) slot
+can-tell {n} {t} {dst} {left} slotted owner owned slot left′ arrivals′ figures′ planned =
+    let done = planned (slotted .due) (slotted .ring) (slotted .figured) in
+    rw (owned, done .carries) (slot-at-most (traffic n dst (slotted .due)) t left)
 
 -- the largest due slot
 abbrev last : Traffic → ℕ
@@ -116,13 +129,13 @@ abbrev ending : (row t : ℕ) → Stop
 ending row t = record { row = row; slot = record { 0 = t } }
 
 -- What holds where instant t of a run begins.
-pub record Going (T : Traffic) (start plan₀ arrivals₀ : List ℕ) (t late : ℕ)
+pub record Going (T : Traffic) (owner start plan₀ arrivals₀ : List ℕ) (t late : ℕ)
     (left : List ℕ) (figures : List ℤ) (plan arrivals : List ℕ) : Type 0 where
-  pub ready : Ready T start plan₀ arrivals₀
+  pub ready : Ready T owner start plan₀ arrivals₀
   pub none-yet : late ≡ 0
   pub state : left ≡ stateAt T start t
   pub figured : figures ≡ figuresOf T left
-  pub carried : plan ≡ planOf T start t ++ drop (t * T .nodes) plan₀
+  pub carried : plan ≡ toldBy owner (planOf T start t) ++ drop (t * T .nodes) plan₀
   pub stamps : arrivals ≡ stampedBy T start arrivals₀ t
   pub left-long : length left ≡ length start
   pub plan-long : length plan ≡ length plan₀
@@ -131,11 +144,11 @@ pub record Going (T : Traffic) (start plan₀ arrivals₀ : List ℕ) (t late : 
   pub ahead : stopOf T start (last T) ≡ stopFrom T (last T - t) t left
 
 -- At instant 0 nothing has happened.
-pub begin : {T : Traffic} {start plan arrivals : List ℕ} {figures : List ℤ}
-    → Ready T start plan arrivals → figures ≡ figuresOf T start
-    → Going T start plan arrivals 0 0 start figures plan arrivals
-unfolding stateAt planOf stampedBy stopOf
-begin {T} {start} ready figured =
+pub begin : {T : Traffic} {owner start plan arrivals : List ℕ} {figures : List ℤ}
+    → Ready T owner start plan arrivals → figures ≡ figuresOf T start
+    → Going T owner start plan arrivals 0 0 start figures plan arrivals
+unfolding stateAt planOf toldBy stampedBy stopOf
+begin {T} {owner} {start} ready figured =
     record {
       ready = ready;
       none-yet = refl;
@@ -150,9 +163,9 @@ begin {T} {start} ready figured =
       ahead = let e : last T ≡ last T - 0 = omega arith in ap (λ m. stopFrom T m 0 start) e;
     }
 
-module _ {T : Traffic} {start plan₀ arrivals₀ : List ℕ} {t late : ℕ}
+module _ {T : Traffic} {owner start plan₀ arrivals₀ : List ℕ} {t late : ℕ}
     {left : List ℕ} {figures : List ℤ} {plan arrivals : List ℕ}
-    (g : Going T start plan₀ arrivals₀ t late left figures plan arrivals) where
+    (g : Going T owner start plan₀ arrivals₀ t late left figures plan arrivals) where
   pub on-ring : OnRing T left
   on-ring = rw (g .state) (state-on-ring T start (g .ready .ring) t)
 
@@ -162,7 +175,7 @@ module _ {T : Traffic} {start plan₀ arrivals₀ : List ℕ} {t late : ℕ}
       ap length (g .figured) ∙ figures-long T left ∙ g .left-long ∙ sym (ap length e ∙ figures-long T start)
 
   ended : (row : ℕ) → lateRow T t left ≡ row → anyUnderWay left && eqb (lateRow T t left) 0 ≡ false
-      → Walked T start plan₀ arrivals₀ (ending row t) left figures plan arrivals
+      → Walked T owner start plan₀ arrivals₀ (ending row t) left figures plan arrivals
   ended row e stop =
       record {
         stops = ap (λ r. ending r t) (sym e) ∙ sym (g .ahead ∙ halts T (last T - t) t left stop);
@@ -173,26 +186,26 @@ module _ {T : Traffic} {start plan₀ arrivals₀ : List ℕ} {t late : ℕ}
       }
 
   -- No row is under way any more.
-  pub over : anyUnderWay left ≡ false → Walked T start plan₀ arrivals₀ (ending late t) left figures plan arrivals
+  pub over : anyUnderWay left ≡ false → Walked T owner start plan₀ arrivals₀ (ending late t) left figures plan arrivals
   over e =
       rw (g .none-yet) (ended 0 (none-late T t left (λ i h.
       then-not-late T t left i (λ l. absurd (omega (arith, none-under-way left e i))))) (rw e))
 
   -- Row i is the lowest that is late.
   pub is-late : (i : ℕ) → lateRow T t left ≡ suc i
-      → Walked T start plan₀ arrivals₀ (ending (i + 1) t) left figures plan arrivals
+      → Walked T owner start plan₀ arrivals₀ (ending (i + 1) t) left figures plan arrivals
   is-late i e = ended (i + 1) (e ∙ sym (add-one i)) (rw (ne-eqb (lateRow T t left) 0 (λ z. omega arith), and-false))
 
 -- What holds where the slot of instant t is to be planned: a row is under way, and none was found late.
-pub record Planning (T : Traffic) (start plan₀ arrivals₀ : List ℕ) (t late : ℕ)
+pub record Planning (T : Traffic) (owner start plan₀ arrivals₀ : List ℕ) (t late : ℕ)
     (left : List ℕ) (figures : List ℤ) (plan arrivals : List ℕ) : Type 0 where
-  pub going : Going T start plan₀ arrivals₀ t late left figures plan arrivals
+  pub going : Going T owner start plan₀ arrivals₀ t late left figures plan arrivals
   pub busy : anyUnderWay left ≡ true
   pub on-time : lateRow T t left ≡ 0
 
-module _ {T : Traffic} {start plan₀ arrivals₀ : List ℕ} {t late : ℕ}
+module _ {T : Traffic} {owner start plan₀ arrivals₀ : List ℕ} {t late : ℕ}
     {left : List ℕ} {figures : List ℤ} {plan arrivals : List ℕ}
-    (k : Planning T start plan₀ arrivals₀ t late left figures plan arrivals) where
+    (k : Planning T owner start plan₀ arrivals₀ t late left figures plan arrivals) where
   abbrev first-link : ℕ
   first-link = t * T .nodes
 
@@ -219,6 +232,9 @@ module _ {T : Traffic} {start plan₀ arrivals₀ : List ℕ} {t late : ℕ}
       let fits : T .nodes ≤ length (drop first-link plan) = simp length-drop (omega (arith, has-room)) in
       rw e (length-take-le (T .nodes) (drop first-link plan) fits)
 
+  pub each-owned : length owner ≡ length left
+  each-owned = k .going .ready .owned ∙ sym (k .going .left-long)
+
   pub can-plan : Slotted (T .nodes) (T .dst) t left figures (take links (drop first-link plan)) arrivals
   can-plan =
       record {
@@ -233,8 +249,8 @@ module _ {T : Traffic} {start plan₀ arrivals₀ : List ℕ} {t late : ℕ}
       }
 
   -- The slot planned, the next instant begins.
-  module _ {late′ : ℕ} {slot left′ : List ℕ} {figures′ : List ℤ} {arrivals′ : List ℕ} (same : late′ ≡ late)
-      (done : SlotPlanned T t left arrivals slot left′ figures′ arrivals′) where
+  module _ {late′ : ℕ} {slot sent left′ : List ℕ} {figures′ : List ℤ} {arrivals′ : List ℕ} (same : late′ ≡ late)
+      (told : slot ≡ toldBy owner sent) (done : SlotPlanned T t left arrivals sent left′ figures′ arrivals′) where
     next-state : left′ ≡ stateAt T start (t + 1)
     next-state =
         done .moves ∙ ap (λ l. moved T (slotOf T t l) l) (k .going .state) ∙ sym (state-more T start t)
@@ -242,8 +258,9 @@ module _ {T : Traffic} {start plan₀ arrivals₀ : List ℕ} {t late : ℕ}
     next-stamps : arrivals′ ≡ stampedBy T start arrivals₀ (t + 1)
     next-stamps = done .stamps ∙ rw (k .going .state, k .going .stamps) (sym (stamps-more T start t arrivals₀))
 
-    next-plan : putMid first-link links plan slot ≡ planOf T start (t + 1) ++ drop ((t + 1) * T .nodes) plan₀
-    next-plan = rw (k .going .carried, done .carries, k .going .state) (plan-more T start t plan₀)
+    next-plan : putMid first-link links plan slot
+        ≡ toldBy owner (planOf T start (t + 1)) ++ drop ((t + 1) * T .nodes) plan₀
+    next-plan = rw (k .going .carried, told, done .carries, k .going .state) (plan-more T start t owner plan₀)
 
     goes-on : stopFrom T (last T - t) t left ≡ stopFrom T (last T - (t + 1)) (t + 1) left′
     goes-on =
@@ -251,9 +268,11 @@ module _ {T : Traffic} {start plan₀ arrivals₀ : List ℕ} {t late : ℕ}
         rw (done .moves) (runs-on T (last T - t) t left (last T - (t + 1)) one-less (k .busy) (k .on-time))
 
     slot-long : length slot ≡ length (take links (drop first-link plan))
-    slot-long = ap length (done .carries) ∙ slot-length T t left ∙ sym part-long
+    slot-long =
+        ap length told ∙ told-long owner sent ∙ ap length (done .carries) ∙ slot-length T t left ∙ sym part-long
 
-    pub again : Going T start plan₀ arrivals₀ (t + 1) late′ left′ figures′ (putMid first-link links plan slot) arrivals′
+    pub again : Going T owner start plan₀ arrivals₀ (t + 1) late′
+        left′ figures′ (putMid first-link links plan slot) arrivals′
     again =
         record {
           ready = k .going .ready;

@@ -1,11 +1,15 @@
-// A whole run: instant by instant, until a row is late or none is under way.
+// A whole run of cells: instant by instant, until a cell is late or none is under way. What it gives is told in rows.
 ghost use mathlib.Core.Path.{_≡_};
 ghost use Prim.Native.Nat.{_≤_};
 ghost use lib.IntN.{ℤ, pos};
 ghost use lib.ListN.{length, replicate};
 ghost use Rattle.slack.specs.Slack.{traffic};
 ghost use Rattle.slack.specs.Figure.{figuresOf};
-ghost use Rattle.run.specs.Steps.{Ready, Walked, Ran};
+ghost use Rattle.slot.specs.Steps.{Slotted};
+ghost use Rattle.cells.specs.Cells.{endBy};
+ghost use Rattle.run.specs.Steps.{Ready, SlotTold, Walked, Ran};
+use cells::row_of;
+use cells::tell_in_rows;
 use lists::clear;
 use ring::Links;
 use ring::Slot;
@@ -15,21 +19,43 @@ use slot::any_under_way;
 use slot::plan_slot;
 use slot::write_figures;
 
-// Walks over the instants until no row is under way, and over the rows at each; it is left at the first row that is
+// Plans slot t and tells it in rows, where each cell's owner is listed.
+fn plan_slot_in_rows(
+    nodes: u16,
+    dst: &[u16],
+    owner: &[u16],
+    t: Slot,
+    left: &mut [u16],
+    figure: &mut [i32],
+    slot: &mut [u16],
+    arrivals: &mut [u16],
+)
+    requires { ⌜ Slotted nodes (now dst) (t .0) (now left) (now figure) (now slot) (now arrivals)
+        × (length (now owner) ≡ length (now left)) ⌝ }
+    ensures { λ _. ⌜ SlotTold (now (owner .entry)) nodes (now (dst .entry)) (t .0)
+        (now (left .entry)) (now (figure .entry)) (now (arrivals .entry))
+        (now (slot .exit)) (now (left .exit)) (now (figure .exit)) (now (arrivals .exit)) ⌝ }
+{
+    plan_slot(nodes, dst, t, left, figure, slot, arrivals);
+    tell_in_rows(owner, slot);
+}
+
+// Walks over the instants until no cell is under way, and over the cells at each; it is left at the first cell that is
 // late.
 fn walk(
     nodes: u16,
     dst: &[u16],
     due: &[u16],
+    owner: &[u16],
     left: &mut [u16],
     figure: &mut [i32],
     plan: &mut [u16],
     arrivals: &mut [u16],
 ) -> Stop
-    requires { ⌜ Ready (traffic nodes (now dst) (now due)) (now left) (now plan) (now arrivals)
+    requires { ⌜ Ready (traffic nodes (now dst) (now due)) (now owner) (now left) (now plan) (now arrivals)
         × (now figure ≡ figuresOf (traffic nodes (now dst) (now due)) (now left)) ⌝ }
     ensures { λ r. ⌜ Walked (traffic nodes (now (dst .entry)) (now (due .entry)))
-        (now (left .entry)) (now (plan .entry)) (now (arrivals .entry))
+        (now (owner .entry)) (now (left .entry)) (now (plan .entry)) (now (arrivals .entry))
         r (now (left .exit)) (now (figure .exit)) (now (plan .exit)) (now (arrivals .exit)) ⌝ }
 {
     let mut t = 0u16;
@@ -45,9 +71,10 @@ fn walk(
         }
         let first = t as usize * nodes as usize;
         let next = first + nodes as usize;
-        plan_slot(
+        plan_slot_in_rows(
             nodes,
             dst,
+            owner,
             Slot(t),
             left,
             figure,
@@ -62,25 +89,39 @@ fn walk(
     }
 }
 
-// Plans a run of which the figures are written down: the plan and the arrivals where every row is in time, and both
+// Where a run of cells ended, told in rows.
+fn end_in_rows(owner: &[u16], stop: Stop) -> Stop
+    requires { ⌜ stop .row ≤ length (now owner) ⌝ }
+    ensures { λ r. ⌜ r ≡ endBy (now (owner .entry)) stop ⌝ }
+{
+    let row = row_of(owner, stop.row);
+    Stop {
+        row: row,
+        slot: Slot(stop.slot.0),
+    }
+}
+
+// Plans a run of which the figures are written down: the plan and the arrivals where every cell is in time, and both
 // areas cleared where one is late.
 fn run_figured(
     nodes: u16,
     dst: &[u16],
     due: &[u16],
+    owner: &[u16],
     left: &mut [u16],
     figure: &mut [i32],
     plan: &mut [u16],
     arrivals: &mut [u16],
 ) -> Stop
-    requires { ⌜ Ready (traffic nodes (now dst) (now due)) (now left) (now plan) (now arrivals)
+    requires { ⌜ Ready (traffic nodes (now dst) (now due)) (now owner) (now left) (now plan) (now arrivals)
         × (now figure ≡ figuresOf (traffic nodes (now dst) (now due)) (now left)) ⌝ }
     ensures { λ r. ⌜ Ran (traffic nodes (now (dst .entry)) (now (due .entry)))
-        (now (left .entry)) (length (now (plan .entry))) r
+        (now (owner .entry)) (now (left .entry)) (length (now (plan .entry))) r
         (now (left .exit)) (now (plan .exit)) (now (arrivals .exit)) ⌝ }
 {
-    clear(arrivals); // no slot stamps a row that has nothing to go
-    let stop = walk(nodes, dst, due, left, figure, plan, arrivals);
+    clear(arrivals); // no slot stamps a cell that has nothing to go
+    let stop = walk(nodes, dst, due, owner, left, figure, plan, arrivals);
+    let ended = end_in_rows(owner, stop);
     if stop.row == 0 {
         let idle = stop.slot.0 as usize * nodes as usize;
         clear(&mut plan[idle..]);
@@ -88,33 +129,43 @@ fn run_figured(
         clear(plan);
         clear(arrivals);
     }
-    stop
+    ended
 }
 
-// A place for the figure of each row that a table may have.
-fn no_figures() -> [i32; 512]
-    ensures { λ r. ⌜ r ≡ replicate {A = ℤ} 512 (pos 0) ⌝ }
+// A place for the figure of each cell that a table may have.
+fn no_figures() -> [i32; 1024]
+    ensures { λ r. ⌜ r ≡ replicate {A = ℤ} 1024 (pos 0) ⌝ }
 {
-    [0i32; 512]
+    [0i32; 1024]
 }
 
-// Plans a whole run of at most 512 rows, of which any may have nothing to go.
+// Plans a whole run of at most 1,024 cells, of which any may have nothing to go.
 pub fn run(
     nodes: u16,
     dst: &[u16],
     due: &[u16],
+    owner: &[u16],
     left: &mut [u16],
     plan: &mut [u16],
     arrivals: &mut [u16],
 ) -> Stop
-    requires { ⌜ Ready (traffic nodes (now dst) (now due)) (now left) (now plan) (now arrivals)
-        × (length (now left) ≤ 512) ⌝ }
+    requires { ⌜ Ready (traffic nodes (now dst) (now due)) (now owner) (now left) (now plan) (now arrivals)
+        × (length (now left) ≤ 1024) ⌝ }
     ensures { λ r. ⌜ Ran (traffic nodes (now (dst .entry)) (now (due .entry)))
-        (now (left .entry)) (length (now (plan .entry))) r
+        (now (owner .entry)) (now (left .entry)) (length (now (plan .entry))) r
         (now (left .exit)) (now (plan .exit)) (now (arrivals .exit)) ⌝ }
 {
-    let rows = left.len();
+    let cells = left.len();
     let mut figure = no_figures();
-    write_figures(nodes, dst, due, left, &mut figure[..rows]);
-    run_figured(nodes, dst, due, left, &mut figure[..rows], plan, arrivals)
+    write_figures(nodes, dst, due, left, &mut figure[..cells]);
+    run_figured(
+        nodes,
+        dst,
+        due,
+        owner,
+        left,
+        &mut figure[..cells],
+        plan,
+        arrivals,
+    )
 }

@@ -37,14 +37,17 @@ fn say(catalogue: &[u8], answer: Answer) {
 fn two_rows(a: Row, b: Row) -> Columns {
     let mut src = zeros();
     let mut dst = zeros();
+    let mut len = zeros();
     let mut due = zeros();
     src[0] = a.src;
     src[1] = b.src;
     dst[0] = a.dst;
     dst[1] = b.dst;
+    len[0] = a.len;
+    len[1] = b.len;
     due[0] = a.due;
     due[1] = b.due;
-    Columns { src, dst, due }
+    Columns { src, dst, len, due }
 }
 
 // Plans two rows on a ring of four nodes, and says what came of it.
@@ -55,9 +58,14 @@ fn say_plan(catalogue: &[u8], a: Row, b: Row) {
     say(catalogue, answer);
 }
 
-// One row of a case.
+// One row of a case, of one cell.
 fn row(src: u16, dst: u16, due: u16) -> Row {
-    Row { src, dst, due }
+    Row {
+        src,
+        dst,
+        len: 1,
+        due,
+    }
 }
 
 // Says case B of document 01's sweep table, which is accepted, case D, which is late, and a row that goes nowhere.

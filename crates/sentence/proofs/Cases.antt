@@ -27,12 +27,14 @@ label field lent = afterVerdict (verdictOn whole) (isIn field fields) (labelOf w
 refused : (number line : ℕ) → Writing
 refused number line = NotWritten (refuse number line 0)
 
--- J 3 7 for 9, row 3 and slot 7; A 0 0 for acceptance, whatever is given; a row of three digits; the label of field 2.
+-- J 3 7 for 9, row 3 and slot 7; A 0 0 for acceptance, whatever is given; a row of three digits; L 0 0 for 11, the
+-- twelfth answer; the label of field 2.
 sentences-made :
-    sentence whole 9 3 7 ∷ sentence whole 0 3 7 ∷ sentence whole 6 512 0 ∷ labelOf whole 2 ∷ []
+    sentence whole 9 3 7 ∷ sentence whole 0 3 7 ∷ sentence whole 6 512 0 ∷ sentence whole 11 0 0 ∷ labelOf whole 2 ∷ []
     ≡ (74 ∷ 32 ∷ 51 ∷ 32 ∷ 55 ∷ [])
     ∷ (65 ∷ 32 ∷ 48 ∷ 32 ∷ 48 ∷ [])
     ∷ (71 ∷ 32 ∷ 53 ∷ 49 ∷ 50 ∷ 32 ∷ 48 ∷ [])
+    ∷ (76 ∷ 32 ∷ 48 ∷ 32 ∷ 48 ∷ [])
     ∷ ((66 + length numbers) ∷ [])
     ∷ []
 unfolding keyOf keys textOf firstLine behindLine stringAt stringsIn labelsIn firstPlace

@@ -177,11 +177,11 @@ module _ (T : Traffic) (t : ℕ) (left : List ℕ) (p : ℕ) where
       let h = eq-eqb (place T left i) p (s .here) in
       not-both (eqb (place T left i) p) x (not-both (ltb 0 (links left i)) (eqb (place T left i) p && x) e w) h
 
-  better-than-none : (i : ℕ) → better T t left p 0 i ≡ stands-and i true
+  pub better-than-none : (i : ℕ) → better T t left p 0 i ≡ stands-and i true
   unfolding better underWay
   better-than-none i = refl
 
-  better-than : (b i : ℕ) → better T t left p (suc b) i ≡ stands-and i (less i b)
+  pub better-than : (b i : ℕ) → better T t left p (suc b) i ≡ stands-and i (less i b)
   unfolding better underWay slack
   better-than b i =
       rw (ne-eqb (suc b) 0 (omega arith), slack-compared (due T i) (links left i) (due T b) (links left b) t)

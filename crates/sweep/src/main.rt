@@ -20,9 +20,14 @@ const UNTOUCHED: u16 = 65535;
 // Standard output.
 const OUT: i32 = 1;
 
-// One row of a case.
+// One row of a case, of one cell.
 fn row(src: u16, dst: u16, due: u16) -> Row {
-    Row { src, dst, due }
+    Row {
+        src,
+        dst,
+        len: 1,
+        due,
+    }
 }
 
 // Three rows of one kind.

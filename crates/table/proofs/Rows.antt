@@ -13,7 +13,7 @@ use lib.Seq.{getD-take}
 use Rattle.lists.proofs.Build.{length-build, build-ext, build-of}
 use Rattle.table.specs.declared.Row.{Row}
 use Rattle.table.specs.declared.Columns.{Columns}
-use Rattle.table.specs.Table.{destinations, dues}
+use Rattle.table.specs.Table.{destinations, lengths, dues}
 use Rattle.table.specs.Steps.{none, column, columns, listed, sources, rowsOf, SameRows}
 
 -- ---- one column
@@ -38,7 +38,12 @@ length-map f (x ∷ xs) = ap suc (length-map f xs)
 -- ---- and back
 -- row i of the columns
 abbrev pub rowOf : Columns → ℕ → Row
-rowOf c i = record { src = getD (c .src) i 0; dst = getD (c .dst) i 0; due = getD (c .due) i 0 }
+rowOf c i = record {
+  src = getD (c .src) i 0;
+  dst = getD (c .dst) i 0;
+  len = getD (c .len) i 0;
+  due = getD (c .due) i 0;
+}
 
 pub length-listed : (n : ℕ) (c : Columns) → length (listed n c) ≡ n
 unfolding listed
@@ -48,14 +53,15 @@ entry : (f : Row → ℕ) → f none ≡ 0 → (rows : List Row) (i : ℕ) → i
     → getD (column (map f rows)) i 0 ≡ f (getD rows i none)
 entry f z rows i small = column-at (map f rows) i small ∙ ap (getD (map f rows) i) (sym z) ∙ List·getD-map f rows i none
 
-same-row : {a b c : ℕ} (r : Row) → a ≡ r .src → b ≡ r .dst → c ≡ r .due → record { src = a; dst = b; due = c } ≡ r
-same-row r h₁ h₂ h₃ = λ i. record { src = h₁ i; dst = h₂ i; due = h₃ i }
+same-row : {a b c d : ℕ} (r : Row) → a ≡ r .src → b ≡ r .dst → c ≡ r .len → d ≡ r .due
+    → record { src = a; dst = b; len = c; due = d } ≡ r
+same-row r h₁ h₂ h₃ h₄ = λ i. record { src = h₁ i; dst = h₂ i; len = h₃ i; due = h₄ i }
 
 row-of : (rows : List Row) (i : ℕ) → i < 512 → rowOf (columns rows) i ≡ getD rows i none
-unfolding columns sources destinations dues
+unfolding columns sources destinations lengths dues
 row-of rows i l =
     same-row (getD rows i none) (entry (λ r. r .src) refl rows i l) (entry (λ r. r .dst) refl rows i l)
-    (entry (λ r. r .due) refl rows i l)
+    (entry (λ r. r .len) refl rows i l) (entry (λ r. r .due) refl rows i l)
 
 pub listed-columns : (rows : List Row) → length rows ≤ 512 → listed (length rows) (columns rows) ≡ rows
 unfolding listed
@@ -64,22 +70,26 @@ listed-columns rows few =
     ∙ build-of (length rows) none rows refl
 
 -- ---- the rows that columns of just their length hold
-pub rows-of-columns : (rows : List Row) → rowsOf (sources rows) (destinations rows) (dues rows) ≡ rows
-unfolding rowsOf sources destinations dues
+pub rows-of-columns : (rows : List Row)
+    → rowsOf (sources rows) (destinations rows) (lengths rows) (dues rows) ≡ rows
+unfolding rowsOf sources destinations lengths dues
 rows-of-columns rows =
     rw (length-map (λ r. r .src) rows)
     (build-ext (length rows) _ (λ i. getD rows i none)
     (λ i l. same-row (getD rows i none) (List·getD-map (λ r. r .src) rows i none)
-    (List·getD-map (λ r. r .dst) rows i none) (List·getD-map (λ r. r .due) rows i none))
+    (List·getD-map (λ r. r .dst) rows i none) (List·getD-map (λ r. r .len) rows i none)
+    (List·getD-map (λ r. r .due) rows i none))
     ∙ build-of (length rows) none rows refl)
 
-pub same-rows : (rows : List Row) → length rows ≤ 512 → SameRows (sources rows) (destinations rows) (dues rows)
-unfolding sources destinations dues
+pub same-rows : (rows : List Row) → length rows ≤ 512
+    → SameRows (sources rows) (destinations rows) (lengths rows) (dues rows)
+unfolding sources destinations lengths dues
 same-rows rows few =
     let s = length-map (λ r. r .src) rows in
     record {
       few = omega arith;
       dst-each = length-map (λ r. r .dst) rows
           ∙ sym s;
+      len-each = length-map (λ r. r .len) rows ∙ sym s;
       due-each = length-map (λ r. r .due) rows ∙ sym s;
     }

@@ -3,17 +3,19 @@ ghost use mathlib.Core.Path.{_≡_};
 ghost use lib.ListN.{length, getD};
 ghost use Rattle.lists.specs.Lists.{build};
 ghost use Rattle.ring.specs.Ring.{distance};
-ghost use Rattle.table.specs.Table.{rowRefusal, judgeRows};
+ghost use Rattle.table.specs.Table.{rowRefusal, judgeRows, judgeAll};
 ghost use Rattle.table.specs.Steps.{rowsOf, SameRows, Measuring};
+use lists::sum;
 use ring::Node;
 use ring::Slot;
 use ring::links_between;
 
-// One message: where it starts, where it goes, and the instant by which it must be there.
+// One message: where it starts, where it goes, how many cells it has, and the instant by which they must be there.
 #[repr(C)]
 pub struct Row {
     pub src: u16,
     pub dst: u16,
+    pub len: u16,
     pub due: u16,
 }
 
@@ -21,6 +23,7 @@ pub struct Row {
 pub struct Columns {
     pub src: [u16; 512],
     pub dst: [u16; 512],
+    pub len: [u16; 512],
     pub due: [u16; 512],
 }
 
@@ -50,6 +53,12 @@ pub fn row_refusal(nodes: u16, r: Row) -> u16
     if r.src == r.dst {
         return 5;
     }
+    if r.len == 0 {
+        return 10;
+    }
+    if 64 < r.len {
+        return 10;
+    }
     if r.due == 0 {
         return 6;
     }
@@ -59,16 +68,18 @@ pub fn row_refusal(nodes: u16, r: Row) -> u16
     0
 }
 
-// The refusal of the first bad row of three columns, if there is one.
-pub fn judge_rows(nodes: u16, src: &[u16], dst: &[u16], due: &[u16]) -> Verdict
-    requires { ⌜ SameRows (now src) (now dst) (now due) ⌝ }
-    ensures { λ r. ⌜ r ≡ judgeRows nodes (rowsOf (now (src .entry)) (now (dst .entry)) (now (due .entry))) 0 ⌝ }
+// The refusal of the first bad row of four columns, if there is one.
+pub fn judge_rows(nodes: u16, src: &[u16], dst: &[u16], len: &[u16], due: &[u16]) -> Verdict
+    requires { ⌜ SameRows (now src) (now dst) (now len) (now due) ⌝ }
+    ensures { λ r. ⌜ r ≡ judgeRows nodes
+        (rowsOf (now (src .entry)) (now (dst .entry)) (now (len .entry)) (now (due .entry))) 0 ⌝ }
 {
     let mut i = 0;
     while i < src.len() {
         let r = Row {
             src: src[i],
             dst: dst[i],
+            len: len[i],
             due: due[i],
         };
         let number = row_refusal(nodes, r);
@@ -82,6 +93,29 @@ pub fn judge_rows(nodes: u16, src: &[u16], dst: &[u16], due: &[u16]) -> Verdict
         i += 1;
     }
     Verdict::Good
+}
+
+// The verdict on the rows of four columns: that of the first bad row, and where there is none that on their cells.
+pub fn judge_all(nodes: u16, src: &[u16], dst: &[u16], len: &[u16], due: &[u16]) -> Verdict
+    requires { ⌜ SameRows (now src) (now dst) (now len) (now due) ⌝ }
+    ensures { λ r. ⌜ r ≡ judgeAll nodes
+        (rowsOf (now (src .entry)) (now (dst .entry)) (now (len .entry)) (now (due .entry))) ⌝ }
+{
+    let rows = judge_rows(nodes, src, dst, len, due);
+    let cells = sum(len);
+    match rows {
+        Verdict::Refused(r) => Verdict::Refused(r),
+        Verdict::Good => {
+            if 1024 < cells {
+                return Verdict::Refused(Refusal {
+                    number: 11,
+                    row: 0,
+                    slot: Slot(0),
+                });
+            }
+            Verdict::Good
+        }
+    }
 }
 
 // Writes down how many links each row has to go.

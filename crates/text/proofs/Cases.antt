@@ -13,9 +13,9 @@ use Rattle.text.specs.Text.{starts, digitsAt, extended, itemValue, itemG
 use Rattle.text.specs.Text.{wrongLine, rowsKeys, rowAt, rowsAt, nodesIn, rowsIn, bodyOf, readingOfRows}
 use Rattle.text.specs.Text.{readingOfBody, readingOf, rowsRead, writingOf, areaAfter}
 
--- The rows of case B, and its text as document 01 prints it.
+-- The rows of case B, and its text as document 01 prints it, with a length of 1 in each row.
 abbrev pub case-b : List Row
-case-b = record { src = 0; dst = 1; due = 2 } ∷ record { src = 0; dst = 3; due = 3 } ∷ []
+case-b = record { src = 0; dst = 1; len = 1; due = 2 } ∷ record { src = 0; dst = 3; len = 1; due = 3 } ∷ []
 
 abbrev pub case-b-text : List ℕ
 case-b-text =
@@ -23,9 +23,11 @@ case-b-text =
     114 ∷ 111 ∷ 119 ∷ 115 ∷ 61 ∷ 50 ∷ 10 ∷
     115 ∷ 114 ∷ 99 ∷ 61 ∷ 48 ∷ 10 ∷
     100 ∷ 115 ∷ 116 ∷ 61 ∷ 49 ∷ 10 ∷
+    108 ∷ 101 ∷ 110 ∷ 61 ∷ 49 ∷ 10 ∷
     100 ∷ 117 ∷ 101 ∷ 61 ∷ 50 ∷ 10 ∷
     115 ∷ 114 ∷ 99 ∷ 61 ∷ 48 ∷ 10 ∷
     100 ∷ 115 ∷ 116 ∷ 61 ∷ 51 ∷ 10 ∷
+    108 ∷ 101 ∷ 110 ∷ 61 ∷ 49 ∷ 10 ∷
     100 ∷ 117 ∷ 101 ∷ 61 ∷ 51 ∷ 10 ∷ []
 
 pub case-b-written : textOf 4 case-b ≡ case-b-text
@@ -42,24 +44,50 @@ unfolding width lastDigits numeral line starts digitsAt extended itemValue itemG
     behindLines wrongLine rowsKeys rowAt rowsAt nodesIn rowsIn bodyOf readingOfRows readingOfBody readingOf rowsRead
 case-b-rows = refl
 
--- Its text has 51 bytes: an area of 50 is too short, one of 51 will do, and of one of 53 two bytes are left alone.
-pub case-b-too-long : writingOf 4 case-b 50 ≡ NotWritten (refuse 22 0 0)
+-- Its text has 63 bytes: an area of 62 is too short, one of 63 will do, and of one of 65 two bytes are left alone.
+pub case-b-too-long : writingOf 4 case-b 62 ≡ NotWritten (refuse 22 0 0)
 unfolding width lastDigits numeral line row-keys linesText rowText rowsText textOf writingOf
 case-b-too-long = refl
 
-pub case-b-fits : writingOf 4 case-b 51 ≡ Written 51
+pub case-b-fits : writingOf 4 case-b 63 ≡ Written 63
 unfolding width lastDigits numeral line row-keys linesText rowText rowsText textOf writingOf
 case-b-fits = refl
 
-pub case-b-in-area : areaAfter 4 case-b (replicate {A = ℕ} 53 7) ≡ case-b-text ++ (7 ∷ 7 ∷ [])
+pub case-b-in-area : areaAfter 4 case-b (replicate {A = ℕ} 65 7) ≡ case-b-text ++ (7 ∷ 7 ∷ [])
 unfolding width lastDigits numeral line row-keys linesText rowText rowsText textOf areaAfter
 case-b-in-area = refl
 
+-- A text of no rows has no lengths to miss.
+pub no-rows-read : readingOf (110 ∷ 111 ∷ 100 ∷ 101 ∷ 115 ∷ 61 ∷ 52 ∷ 10 ∷ 114 ∷ 111 ∷ 119 ∷ 115 ∷ 61 ∷ 48 ∷ 10 ∷ []) 2
+    ≡ Read (record { nodes = 4; rows = 0 })
+unfolding width lastDigits numeral line starts digitsAt extended itemValue itemGood itemRest row-keys valuesAt
+    behindLines wrongLine rowsKeys rowAt rowsAt nodesIn rowsIn bodyOf readingOfRows readingOfBody readingOf
+no-rows-read = refl
+
 -- A table of 513 rows is not written, however long the area is.
-pub too-many-rows : writingOf 4 (replicate {A = Row} 513 (record { src = 0; dst = 1; due = 2 })) 20000 ≡ NotWritten
-    (refuse 2 0 0)
+pub too-many-rows : writingOf 4 (replicate {A = Row} 513 (record { src = 0; dst = 1; len = 1; due = 2 })) 30000
+    ≡ NotWritten (refuse 2 0 0)
 unfolding width lastDigits numeral line row-keys linesText rowText rowsText textOf writingOf
 too-many-rows = refl
+
+-- The head of a text of one row, right lines of that row, and a due slot of six digits.
+abbrev one-row : List ℕ
+one-row = 110 ∷ 111 ∷ 100 ∷ 101 ∷ 115 ∷ 61 ∷ 52 ∷ 10 ∷ 114 ∷ 111 ∷ 119 ∷ 115 ∷ 61 ∷ 49 ∷ 10 ∷ []
+
+abbrev src-line : List ℕ
+src-line = 115 ∷ 114 ∷ 99 ∷ 61 ∷ 48 ∷ 10 ∷ []
+
+abbrev dst-line : List ℕ
+dst-line = 100 ∷ 115 ∷ 116 ∷ 61 ∷ 49 ∷ 10 ∷ []
+
+abbrev len-line : List ℕ
+len-line = 108 ∷ 101 ∷ 110 ∷ 61 ∷ 49 ∷ 10 ∷ []
+
+abbrev due-line : List ℕ
+due-line = 100 ∷ 117 ∷ 101 ∷ 61 ∷ 50 ∷ 10 ∷ []
+
+abbrev six-digits : List ℕ
+six-digits = 100 ∷ 117 ∷ 101 ∷ 61 ∷ 49 ∷ 50 ∷ 51 ∷ 52 ∷ 53 ∷ 54 ∷ 10 ∷ []
 
 -- A text, and the refusal that it gets where 2 records are lent.
 pub record Wrong : Type 0 where
@@ -151,40 +179,47 @@ wrong-texts =
           21;
       place = 0;
     } ∷
+    -- a row without its length, as rows were written before they had one
+    record {
+      text =
+          one-row ++ (src-line ++ (dst-line ++ due-line));
+      number = 20;
+      place = 5;
+    } ∷
     -- the last line feed missing
     record {
       text =
-          110 ∷ 111 ∷ 100 ∷ 101 ∷ 115 ∷ 61 ∷ 52 ∷ 10 ∷ 114 ∷ 111 ∷ 119 ∷ 115 ∷ 61 ∷ 49 ∷ 10 ∷ 115 ∷ 114 ∷ 99 ∷ 61 ∷ 48 ∷ 10 ∷ 100 ∷ 115 ∷ 116 ∷ 61 ∷ 49 ∷ 10 ∷ 100 ∷ 117 ∷ 101 ∷ 61 ∷ 50 ∷ [];
+          one-row ++ (src-line ++ (dst-line ++ (len-line ++ (100 ∷ 117 ∷ 101 ∷ 61 ∷ 50 ∷ []))));
       number = 20;
-      place = 5;
+      place = 6;
     } ∷
     -- the last line missing
     record {
       text =
-          110 ∷ 111 ∷ 100 ∷ 101 ∷ 115 ∷ 61 ∷ 52 ∷ 10 ∷ 114 ∷ 111 ∷ 119 ∷ 115 ∷ 61 ∷ 49 ∷ 10 ∷ 115 ∷ 114 ∷ 99 ∷ 61 ∷ 48 ∷ 10 ∷ 100 ∷ 115 ∷ 116 ∷ 61 ∷ 49 ∷ 10 ∷ [];
+          one-row ++ (src-line ++ (dst-line ++ len-line));
       number = 20;
-      place = 5;
+      place = 6;
     } ∷
     -- two lines in the wrong order
     record {
       text =
-          110 ∷ 111 ∷ 100 ∷ 101 ∷ 115 ∷ 61 ∷ 52 ∷ 10 ∷ 114 ∷ 111 ∷ 119 ∷ 115 ∷ 61 ∷ 49 ∷ 10 ∷ 115 ∷ 114 ∷ 99 ∷ 61 ∷ 48 ∷ 10 ∷ 100 ∷ 117 ∷ 101 ∷ 61 ∷ 49 ∷ 10 ∷ 100 ∷ 115 ∷ 116 ∷ 61 ∷ 50 ∷ 10 ∷ [];
+          one-row ++ (src-line ++ (due-line ++ (len-line ++ dst-line)));
       number = 20;
       place = 4;
     } ∷
     -- no number
     record {
       text =
-          110 ∷ 111 ∷ 100 ∷ 101 ∷ 115 ∷ 61 ∷ 52 ∷ 10 ∷ 114 ∷ 111 ∷ 119 ∷ 115 ∷ 61 ∷ 49 ∷ 10 ∷ 115 ∷ 114 ∷ 99 ∷ 61 ∷ 120 ∷ 10 ∷ 100 ∷ 115 ∷ 116 ∷ 61 ∷ 49 ∷ 10 ∷ 100 ∷ 117 ∷ 101 ∷ 61 ∷ 50 ∷ 10 ∷ [];
+          one-row ++ ((115 ∷ 114 ∷ 99 ∷ 61 ∷ 120 ∷ 10 ∷ []) ++ (dst-line ++ (len-line ++ due-line)));
       number = 20;
       place = 3;
     } ∷
     -- one byte behind the last line
     record {
       text =
-          110 ∷ 111 ∷ 100 ∷ 101 ∷ 115 ∷ 61 ∷ 52 ∷ 10 ∷ 114 ∷ 111 ∷ 119 ∷ 115 ∷ 61 ∷ 49 ∷ 10 ∷ 115 ∷ 114 ∷ 99 ∷ 61 ∷ 48 ∷ 10 ∷ 100 ∷ 115 ∷ 116 ∷ 61 ∷ 49 ∷ 10 ∷ 100 ∷ 117 ∷ 101 ∷ 61 ∷ 50 ∷ 10 ∷ 10 ∷ [];
+          one-row ++ (src-line ++ (dst-line ++ (len-line ++ (due-line ++ (10 ∷ [])))));
       number = 20;
-      place = 6;
+      place = 7;
     } ∷
     -- a byte behind an empty table
     record {
@@ -196,9 +231,9 @@ wrong-texts =
     -- six digits
     record {
       text =
-          110 ∷ 111 ∷ 100 ∷ 101 ∷ 115 ∷ 61 ∷ 52 ∷ 10 ∷ 114 ∷ 111 ∷ 119 ∷ 115 ∷ 61 ∷ 49 ∷ 10 ∷ 115 ∷ 114 ∷ 99 ∷ 61 ∷ 48 ∷ 10 ∷ 100 ∷ 115 ∷ 116 ∷ 61 ∷ 49 ∷ 10 ∷ 100 ∷ 117 ∷ 101 ∷ 61 ∷ 49 ∷ 50 ∷ 51 ∷ 52 ∷ 53 ∷ 54 ∷ 10 ∷ [];
+          one-row ++ (src-line ++ (dst-line ++ (len-line ++ six-digits)));
       number = 20;
-      place = 5;
+      place = 6;
     } ∷
     []
 

@@ -8,7 +8,8 @@ use Prim.Native.Nat.{ℕ, _+_, _*_, _≤_}
 use native.Mathlib.Omega.{arith}
 use lib.ListN.{length, length-append}
 use Rattle.table.specs.declared.Row.{Row}
-use Rattle.text.specs.Text.{row-keys, values, item, line, linesText, rowText, rowsText}
+use Rattle.table.specs.Table.{rowNumbers}
+use Rattle.text.specs.Text.{row-keys, item, line, linesText, rowText, rowsText}
 use Rattle.text.proofs.Numeral.{width-most}
 use Rattle.text.proofs.Lines.{item-length, line-length}
 
@@ -32,11 +33,11 @@ lines-most (k ∷ ks) (v ∷ vs) =
 
 -- the bytes that are enough for the lines of a row
 abbrev pub row-bytes : ℕ
-row-bytes = 30
+row-bytes = 40
 
 pub row-most : (r : Row) → length (rowText r) ≤ row-bytes
 unfolding rowText bytesOf row-keys
-row-most r = lines-most row-keys (values r)
+row-most r = lines-most row-keys (rowNumbers r)
 
 pub rows-long : (rows : List Row) → length (rowsText rows) ≤ row-bytes * length rows
 unfolding rowsText

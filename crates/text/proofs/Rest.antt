@@ -93,7 +93,7 @@ rows-bytes (suc n) = bytes-join row-keys (rowsKeys n) ∙ omega (arith, rows-byt
 unfoldable pub enough : ℕ
 enough = suc (bytesOf (keysOf most-rows))
 
-pub enough-is : enough ≡ 15384
+pub enough-is : enough ≡ 20504
 unfolding enough bytesOf
 enough-is = omega (arith, rows-bytes most-rows)
 

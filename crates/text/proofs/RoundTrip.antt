@@ -3,7 +3,7 @@
 --     write-back       a text that is read is the text of what was read
 --     read-iff-text    so a text is read exactly if it is the text of a table that fits
 --     written-again    and what was read, written again, gives the same bytes
---     longest-text     a text has at most 15,381 bytes
+--     longest-text     a text has at most 20,501 bytes
 -- Assumes nothing.
 use mathlib.Core.Path.{_≡_, refl, _∙_, ap, sym}
 use mathlib.Core.Bool.{Bool, true, false, cond}
@@ -227,7 +227,7 @@ count-width k h = go (ltb k 10) (ltb k 100)
     go false true = omega arith
     go false false = rw (lt-ltb k 1000 (omega arith)) (omega arith)
 
-pub longest-text : (n : ℕ) (rows : List Row) → length rows ≤ 512 → length (textOf n rows) ≤ 15381
+pub longest-text : (n : ℕ) (rows : List Row) → length rows ≤ 512 → length (textOf n rows) ≤ 20501
 unfolding textOf
 longest-text n rows few =
     simp length-append (omega (

@@ -4,7 +4,7 @@
 --     none-wrong                   where none is wrong, they are right, and none is wrong behind them
 --     lines-stand, lines-fit       then the text is just these lines and the rest, and the values are 16-bit
 --     lines-found                  and a text that begins with such lines is seen to, with their values and the rest
---     row-values, values-back      each key of a row has its value, and a row and its values say the same
+--     made, row-values, values-back      each key of a row has its value, and a row and its values say the same
 --     row-stands, row-found        the same of the lines of a row
 -- Assumes nothing.
 use mathlib.Core.Path.{_≡_, refl, _∙_, ap, sym, subst}
@@ -12,10 +12,11 @@ use mathlib.Core.Bool.{Bool, true, false, cond}
 use mathlib.Core.List.{List, [], _∷_, _++_, append-assoc}
 use Prim.Native.Nat.{ℕ, suc, _+_, _<_}
 use native.Mathlib.Omega.{arith}
-use lib.ListN.{length}
+use lib.ListN.{length, getD}
 use Rattle.lists.proofs.Build.{build-of}
 use Rattle.table.specs.declared.Row.{Row}
-use Rattle.text.specs.Text.{line, row-keys, values, rowBy, linesText, rowText, ValuesFit, lineGood, lineValue}
+use Rattle.table.specs.Table.{rowNumbers, rowBy}
+use Rattle.text.specs.Text.{line, row-keys, linesText, rowText, ValuesFit, lineGood, lineValue}
 use Rattle.text.specs.Text.{lineRest, valuesAt, behindLines, wrongLine, rowAt}
 use Rattle.text.proofs.Lines.{line-stands, line-found}
 
@@ -89,13 +90,17 @@ lines-found (k ∷ ks) (v ∷ vs) rest e f =
       past = rw (one .2) (all .past);
     })
 
+-- the row that a list of values makes
+abbrev pub made : List ℕ → Row
+made vs = rowBy (λ j. getD vs j 0)
+
 -- each key of a row has its value, and the values of a row make that row
-pub row-values : (r : Row) → (length (values r) ≡ length row-keys) × (rowBy (values r) ≡ r)
+pub row-values : (r : Row) → (length (rowNumbers r) ≡ length row-keys) × (made (rowNumbers r) ≡ r)
 unfolding row-keys
 row-values r = (refl, refl)
 
 -- so many values as a row has keys are the values of the row that they make
-pub values-back : (vs : List ℕ) → length vs ≡ length row-keys → values (rowBy vs) ≡ vs
+pub values-back : (vs : List ℕ) → length vs ≡ length row-keys → rowNumbers (made vs) ≡ vs
 unfolding row-keys
 values-back vs e = build-of (length row-keys) 0 vs e
 
@@ -105,7 +110,7 @@ row-stands text g =
     let are = sym (values-back (valuesAt row-keys text) (values-many row-keys text)) in
     lines-stand row-keys text g ∙ ap (λ (vs : List ℕ). linesText row-keys vs ++ behindLines row-keys text) are
 
-pub row-fits : (text : List ℕ) → Right row-keys text → ValuesFit (values (rowAt text))
+pub row-fits : (text : List ℕ) → Right row-keys text → ValuesFit (rowNumbers (rowAt text))
 unfolding rowAt
 row-fits text g =
     subst ValuesFit (sym (values-back (valuesAt row-keys text) (values-many row-keys text))) (lines-fit row-keys text g)
@@ -116,8 +121,8 @@ pub record RowFound (r : Row) (rest text : List ℕ) : Type 0 where
   pub row : rowAt text ≡ r
   pub past : behindLines row-keys text ≡ rest
 
-pub row-found : (r : Row) (rest : List ℕ) → ValuesFit (values r) → RowFound r rest (rowText r ++ rest)
+pub row-found : (r : Row) (rest : List ℕ) → ValuesFit (rowNumbers r) → RowFound r rest (rowText r ++ rest)
 unfolding rowText rowAt
 row-found r rest f =
-    let all = lines-found row-keys (values r) rest (row-values r .0) f in
-    record { right = all .right; row = ap rowBy (all .says) ∙ row-values r .1; past = all .past }
+    let all = lines-found row-keys (rowNumbers r) rest (row-values r .0) f in
+    record { right = all .right; row = ap made (all .says) ∙ row-values r .1; past = all .past }

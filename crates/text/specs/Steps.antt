@@ -5,9 +5,9 @@ use mathlib.Core.List.{List, _++_}
 use lib.ListN.{length, take, drop}
 use Rattle.table.specs.declared.Columns.{Columns}
 
--- Three columns as one table's.
-abbrev pub held : (src dst due : List ℕ) → Columns
-held src dst due = record { src = src; dst = dst; due = due }
+-- Four columns as one table's.
+abbrev pub held : (src dst len due : List ℕ) → Columns
+held src dst len due = record { src = src; dst = dst; len = len; due = due }
 
 -- What is left of a number when its last k digits are taken off.
 unfoldable pub tenth : ℕ → ℕ → ℕ

@@ -5,7 +5,7 @@ use mathlib.Core.Bool.{Bool, true, false, cond, _&&_}
 use mathlib.Core.List.{List, [], _∷_, _++_}
 use lib.Dec.{eqb, ltb, leb}
 use lib.ListN.{length, getD, drop}
-use Rattle.table.specs.Table.{refuse, most-rows}
+use Rattle.table.specs.Table.{refuse, most-rows, rowNumbers, rowBy}
 use Rattle.table.specs.Steps.{columns, listed}
 use Rattle.table.specs.declared.Row.{Row}
 use Rattle.text.specs.declared.Parsed.{Parsed}
@@ -21,7 +21,7 @@ line-feed = 10
 abbrev pub digit-zero : ℕ
 digit-zero = 48
 
--- The keys, each with the equals sign behind it: nodes=, rows=, src=, dst=, due=.
+-- The keys, each with the equals sign behind it: nodes=, rows=, src=, dst=, len=, due=.
 abbrev pub nodes-key : List ℕ
 nodes-key = 110 ∷ 111 ∷ 100 ∷ 101 ∷ 115 ∷ 61 ∷ []
 
@@ -33,6 +33,9 @@ src-key = 115 ∷ 114 ∷ 99 ∷ 61 ∷ []
 
 abbrev pub dst-key : List ℕ
 dst-key = 100 ∷ 115 ∷ 116 ∷ 61 ∷ []
+
+abbrev pub len-key : List ℕ
+len-key = 108 ∷ 101 ∷ 110 ∷ 61 ∷ []
 
 abbrev pub due-key : List ℕ
 due-key = 100 ∷ 117 ∷ 101 ∷ 61 ∷ []
@@ -62,17 +65,9 @@ item key v mark = key ++ (numeral v ++ (mark ∷ []))
 unfoldable pub line : (key : List ℕ) → ℕ → List ℕ
 line key v = item key v line-feed
 
--- The keys of a row's lines, in their order: a new line of a row joins here, and its value in the two definitions
--- below.
+-- The keys of a row's lines, in the order of the row's numbers.
 unfoldable pub row-keys : List (List ℕ)
-row-keys = src-key ∷ dst-key ∷ due-key ∷ []
-
--- The values of a row, one for each of these keys, and the row that so many values make.
-abbrev pub values : Row → List ℕ
-values r = r .src ∷ r .dst ∷ r .due ∷ []
-
-abbrev pub rowBy : List ℕ → Row
-rowBy vs = record { src = getD vs 0 0; dst = getD vs 1 0; due = getD vs 2 0 }
+row-keys = src-key ∷ dst-key ∷ len-key ∷ due-key ∷ []
 
 -- The lines of some keys with a value each, in order.
 unfoldable pub linesText : (keys : List (List ℕ)) (values : List ℕ) → List ℕ
@@ -80,9 +75,9 @@ linesText [] vs = []
 linesText (k ∷ ks) [] = []
 linesText (k ∷ ks) (v ∷ vs) = line k v ++ linesText ks vs
 
--- The lines of a row: src, dst, due.
+-- The lines of a row: src, dst, len, due.
 unfoldable pub rowText : Row → List ℕ
-rowText r = linesText row-keys (values r)
+rowText r = linesText row-keys (rowNumbers r)
 
 -- The lines of the rows, in order.
 unfoldable pub rowsText : List Row → List ℕ
@@ -100,7 +95,7 @@ ValuesFit (v ∷ vs) = (v ≤ greatest-value) × ValuesFit vs
 
 abbrev pub RowsFit : List Row → Type 0
 RowsFit [] = Unit {0}
-RowsFit (r ∷ rs) = ValuesFit (values r) × RowsFit rs
+RowsFit (r ∷ rs) = ValuesFit (rowNumbers r) × RowsFit rs
 
 -- A table of 16-bit values and at most 512 rows, which a list of so many records can take.
 pub record TableFits (n : ℕ) (rows : List Row) (lent : ℕ) : Type 0 where
@@ -178,7 +173,7 @@ rowsKeys (suc n) = row-keys ++ rowsKeys n
 
 -- The row that the lines of a row say, and the rows that the lines of n rows say.
 unfoldable pub rowAt : List ℕ → Row
-rowAt text = rowBy (valuesAt row-keys text)
+rowAt text = rowBy (λ j. getD (valuesAt row-keys text) j 0)
 
 unfoldable pub rowsAt : (n : ℕ) → List ℕ → List Row
 rowsAt zero text = []

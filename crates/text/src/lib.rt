@@ -4,8 +4,8 @@ ghost use mathlib.Core.Path.{_≡_};
 ghost use mathlib.Core.List.{[]};
 ghost use Prim.Native.Nat.{_+_, _%_, _≤_, _<_};
 ghost use lib.ListN.{length, getD, drop};
-ghost use Rattle.table.specs.Table.{refuse};
-ghost use Rattle.text.specs.Text.{starts, width, numeral, item, line, digit-zero, row-keys, values, rowBy};
+ghost use Rattle.table.specs.Table.{refuse, rowNumbers, rowBy};
+ghost use Rattle.text.specs.Text.{starts, width, numeral, item, line, digit-zero, row-keys};
 ghost use Rattle.text.specs.Steps.{tenth, pasted};
 use ring::Slot;
 use table::Columns;
@@ -38,12 +38,13 @@ pub enum Writing {
 }
 
 // How many lines a row has.
-pub const ROW_LINES: usize = 3;
+pub const ROW_LINES: usize = 4;
 
-// The keys of a row's lines, in their order: src=, dst=, due=.
+// The keys of a row's lines, in their order: src=, dst=, len=, due=.
 const ROW_KEYS: [[u8; 4]; ROW_LINES] = [
     [115, 114, 99, 61],
     [100, 115, 116, 61],
+    [108, 101, 110, 61],
     [100, 117, 101, 61],
 ];
 
@@ -57,19 +58,20 @@ pub fn row_key(j: usize) -> [u8; 4]
 
 // The values of a row, in the order of its lines.
 pub fn values_of(row: Row) -> [u16; ROW_LINES]
-    ensures { λ r. ⌜ r ≡ values row ⌝ }
+    ensures { λ r. ⌜ r ≡ rowNumbers row ⌝ }
 {
-    [row.src, row.dst, row.due]
+    [row.src, row.dst, row.len, row.due]
 }
 
 // The row of such values.
 pub fn row_by(values: [u16; ROW_LINES]) -> Row
-    ensures { λ r. ⌜ r ≡ rowBy values ⌝ }
+    ensures { λ r. ⌜ r ≡ rowBy (λ j. getD values j 0) ⌝ }
 {
     Row {
         src: values[0],
         dst: values[1],
-        due: values[2],
+        len: values[2],
+        due: values[3],
     }
 }
 

@@ -12,11 +12,12 @@ use native.Mathlib.Numerals.{add-one}
 use lib.ListN.{length, getD, drop, length-append, drop-of-length-le}
 use lib.Seq.{drop-cons}
 use Rattle.lists.proofs.Build.{getD-build}
+use Rattle.table.specs.Table.{rowNumbers}
 use Rattle.table.specs.Steps.{none, listed}
 use Rattle.table.specs.declared.Columns.{Columns}
 use Rattle.table.proofs.Rows.{rowOf, length-listed}
 use Rattle.table.specs.declared.Row.{Row}
-use Rattle.text.specs.Text.{row-keys, values, line, linesText, rowText, rowsText}
+use Rattle.text.specs.Text.{row-keys, line, linesText, rowText, rowsText}
 use Rattle.text.specs.Steps.{pasted, Put, Room}
 use Rattle.text.proofs.Lengths.{bytesOf, row-bytes, lines-most, rows-long}
 use Rattle.text.proofs.Putting.{Putting, begun, fits, put-on, one-put, all-put}
@@ -86,7 +87,7 @@ pub record Laid (area₀ : List ℕ) (at : ℕ) (vs area : List ℕ) (next j : �
   pub long : length vs ≡ length row-keys
   pub putting : Putting area₀ at (linesText row-keys vs) area next (linesText (drop j row-keys) (drop j vs))
 
-pub none-laid : (area₀ : List ℕ) (at : ℕ) (row : Row) (vs : List ℕ) → vs ≡ values row → Room area₀ at (rowText row)
+pub none-laid : (area₀ : List ℕ) (at : ℕ) (row : Row) (vs : List ℕ) → vs ≡ rowNumbers row → Room area₀ at (rowText row)
     → Laid area₀ at vs area₀ at 0
 unfolding rowText row-keys
 none-laid area₀ at row vs e room =
@@ -112,6 +113,6 @@ module _ {area₀ : List ℕ} {at : ℕ} {vs area : List ℕ} {next j : ℕ} (k 
     more-laid next′ area′ p =
         record { few = omega arith; long = k .long; putting = put-on (k .putting) piece left left-is (one-put p) }
 
-  pub all-laid : (row : Row) → vs ≡ values row → length row-keys ≤ j → Put area₀ at (rowText row) next area
+  pub all-laid : (row : Row) → vs ≡ rowNumbers row → length row-keys ≤ j → Put area₀ at (rowText row) next area
   unfolding rowText
   all-laid row e done = rw (← e) (all-put (k .putting) (no-lines row-keys vs j done))

@@ -34,7 +34,7 @@ module _ (n rows : ℕ) (c : Columns) (area : List ℕ) where
       (rowsText table)
   text-length = ap length text-is ∙ simp length-append (omega arith)
 
-  pub text-most : rows ≤ 512 → length (line nodes-key n) + length (line rows-key rows) + length (rowsText table) ≤ 15383
+  pub text-most : rows ≤ 512 → length (line nodes-key n) + length (line rows-key rows) + length (rowsText table) ≤ 20503
   text-most h = omega (arith, line-most nodes-key n, line-most rows-key rows, rows-most rows c)
 
   module _ (few : rows ≤ 512) where

@@ -56,10 +56,16 @@ fn put_row(area: &mut [u8], at: usize, row: Row) -> usize
 }
 
 // The length of the lines of so many rows.
-fn rows_length(rows: usize, src: &[u16; 512], dst: &[u16; 512], due: &[u16; 512]) -> usize
+fn rows_length(
+    rows: usize,
+    src: &[u16; 512],
+    dst: &[u16; 512],
+    len: &[u16; 512],
+    due: &[u16; 512],
+) -> usize
     requires { ⌜ rows ≤ 512 ⌝ }
-    ensures { λ r. ⌜ r ≡ length (rowsText (listed rows (held (now (src .entry)) (now (dst .entry)) (now (due .entry)))))
-        ⌝ }
+    ensures { λ r. ⌜ r ≡ length (rowsText (listed rows
+        (held (now (src .entry)) (now (dst .entry)) (now (len .entry)) (now (due .entry))))) ⌝ }
 {
     let mut sum = 0;
     let mut i = 0;
@@ -67,6 +73,7 @@ fn rows_length(rows: usize, src: &[u16; 512], dst: &[u16; 512], due: &[u16; 512]
         sum += row_length(Row {
             src: src[i],
             dst: dst[i],
+            len: len[i],
             due: due[i],
         });
         i += 1;
@@ -81,12 +88,13 @@ fn put_rows(
     rows: usize,
     src: &[u16; 512],
     dst: &[u16; 512],
+    len: &[u16; 512],
     due: &[u16; 512],
 )
-    requires { ⌜ (rows ≤ 512) × (from + length (rowsText (listed rows (held (now src) (now dst) (now due)))) ≤ length
-        (now area)) ⌝ }
+    requires { ⌜ (rows ≤ 512) × (from
+        + length (rowsText (listed rows (held (now src) (now dst) (now len) (now due)))) ≤ length (now area)) ⌝ }
     ensures { λ _. ⌜ now (area .exit) ≡ pasted (now (area .entry)) from
-        (rowsText (listed rows (held (now (src .entry)) (now (dst .entry)) (now (due .entry))))) ⌝ }
+        (rowsText (listed rows (held (now (src .entry)) (now (dst .entry)) (now (len .entry)) (now (due .entry))))) ⌝ }
 {
     let mut at = from;
     let mut i = 0;
@@ -97,6 +105,7 @@ fn put_rows(
             Row {
                 src: src[i],
                 dst: dst[i],
+                len: len[i],
                 due: due[i],
             },
         );
@@ -114,16 +123,17 @@ pub fn write_columns(nodes: u16, rows: usize, columns: Columns, area: &mut [u8])
     }
     let src = columns.src;
     let dst = columns.dst;
+    let len = columns.len;
     let due = columns.due;
     let count = rows as u16;
     let head = line_length(b"nodes=", nodes) + line_length(b"rows=", count);
-    let length = head + rows_length(rows, &src, &dst, &due);
+    let length = head + rows_length(rows, &src, &dst, &len, &due);
     if area.len() < length {
         return not_written(22);
     }
     let second = put_line(area, 0, b"nodes=", nodes);
     let third = put_line(area, second, b"rows=", count);
-    put_rows(area, third, rows, &src, &dst, &due);
+    put_rows(area, third, rows, &src, &dst, &len, &due);
     Writing::Written(length)
 }
 

@@ -14,13 +14,18 @@ column-of-requires-2 c κs = search needs
 column-of-requires-3 : tie.Need-column-of-requires-3
 column-of-requires-3 c κs = search needs
 
+column-of-requires-4 : tie.Need-column-of-requires-4
+column-of-requires-4 c κs = search needs
+
 returns : tie.Need-returns
 returns c =
-    let s = c .before .before .before .before .before .before .args .table .now in
-    let first = c .before .before .before .before .column-of .ensures in
-    let second = c .before .before .column-of2 .ensures in
-    listed-columns s _ _ _ (search needs) first second (c .column-of3 .ensures)
+    let third = c .before .before in
+    let second = third .before .before in
+    let first = second .before .before in
+    let s = first .before .before .args .table .now in
+    listed-columns s _ _ _ _ (search needs) (first .column-of .ensures) (second .column-of2 .ensures)
+    (third .column-of3 .ensures) (c .column-of4 .ensures)
 
 pub columns-of-spec : {M : Type 1} → statement M
 columns-of-spec =
-    tie.close (tie.spec column-of-requires column-of-requires-2 column-of-requires-3 returns)
+    tie.close (tie.spec column-of-requires column-of-requires-2 column-of-requires-3 column-of-requires-4 returns)

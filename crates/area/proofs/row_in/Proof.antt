@@ -1,7 +1,7 @@
 -- `area::row_in` meets its contract: one read for each number of a row.
 -- Assumes nothing.
 use native.Mathlib.Nat.{add-zero}
-use Rattle.area.specs.Area.{rowIn, rowBy}
+use Rattle.area.specs.Area.{rowIn}
 use borrow.Author.Needs.{needs}
 use Rattle.area.proofs.row_in.Statement.{statement}
 use Rattle.area.proofs.row_in.Tie as tie
@@ -36,8 +36,17 @@ mul-t12 c = search needs
 shared-slice-read-t14 : tie.Need-shared-slice-read-t14
 shared-slice-read-t14 c = search needs
 
+add-t15 : tie.Need-add-t15
+add-t15 c = search needs
+
+mul-t16 : tie.Need-mul-t16
+mul-t16 c = search needs
+
+shared-slice-read-t18 : tie.Need-shared-slice-read-t18
+shared-slice-read-t18 c = search needs
+
 returns : tie.Need-returns
-unfolding rowIn rowBy
+unfolding rowIn
 returns c = rw add-zero
 
 pub row-in-spec : {M : Type 1} → statement M
@@ -54,4 +63,7 @@ row-in-spec =
     add-t11
     mul-t12
     shared-slice-read-t14
+    add-t15
+    mul-t16
+    shared-slice-read-t18
     returns)

@@ -14,6 +14,9 @@ slice-write-part-2 c = search needs
 slice-write-part-3 : tie.Need-slice-write-part-3
 slice-write-part-3 c = search needs
 
+slice-write-part-4 : tie.Need-slice-write-part-4
+slice-write-part-4 c = search needs
+
 same-length : tie.Need-same-length
 same-length c = search needs
 
@@ -22,4 +25,4 @@ returns c = row-set (c .args .row) (c .args .part .now) (c .pre)
 
 pub put-numbers-spec : {M : Type 1} → statement M
 put-numbers-spec =
-    tie.close (tie.spec slice-write-part slice-write-part-2 slice-write-part-3 same-length returns)
+    tie.close (tie.spec slice-write-part slice-write-part-2 slice-write-part-3 slice-write-part-4 same-length returns)

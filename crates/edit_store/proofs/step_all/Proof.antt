@@ -12,12 +12,12 @@ use Rattle.edit_store.proofs.step_all.Statement.{statement}
 use Rattle.edit_store.proofs.step_all.Tie as tie
 
 abbrev Inv-loop : tie.InvT-loop
-Inv-loop part₀ up i₀ part i =
+Inv-loop part₀ step up i₀ part i =
     (i ≤ length part₀) × (length part ≡ length part₀)
-    × (part ≡ filled (λ j. stepBy up (getD part₀ j 0)) part₀ i)
+    × (part ≡ filled (λ j. stepBy up step (getD part₀ j 0)) part₀ i)
 
 abbrev μ-loop : tie.MeasureT-loop
-μ-loop part₀ up i₀ part i = length part₀ - i
+μ-loop part₀ step up i₀ part i = length part₀ - i
 
 loop-holds : tie.Need-loop-holds Inv-loop μ-loop
 loop-holds c = (search needs, refl, refl)
@@ -47,7 +47,7 @@ loop-again : tie.Need-loop-again Inv-loop μ-loop
 loop-again c =
     let a = c .before .before .before .before .before .args in
     let l = c .before .before .before .loop in
-    let more = step-more (a .up) (a .part .now) (l .part) (l .i) (c .stepped .result) in
+    let more = step-more (a .up) (a .step) (a .part .now) (l .part) (l .i) (c .stepped .result) in
     (omega arith, simp length-set (l .inv .1), more (omega arith) (l .inv .2) (c .stepped .ensures))
 
 same-length : tie.Need-same-length Inv-loop μ-loop
@@ -56,7 +56,8 @@ same-length c = c .before .loop .inv .1
 returns : tie.Need-returns Inv-loop μ-loop
 returns c =
     let a = c .before .before .before .args in
-    step-end (a .up) (a .part .now) (c .before .loop .part) (c .before .loop .i) (omega arith) (c .before .loop .inv .2)
+    let l = c .before .loop in
+    step-end (a .up) (a .step) (a .part .now) (l .part) (l .i) (omega arith) (l .inv .2)
 
 pub step-all-spec : {M : Type 1} → statement M
 step-all-spec =

@@ -114,7 +114,11 @@ turn =
     (seq (assign (place 14 []) (addrOf (place 3 (field 2 ∷ []))))
     (seq (assign (place 15 []) (op2 offset (copy (place 14 [])) (copy (place 9 []))))
     (seq (assign (place 15 (deref (tyInt w16) ∷ [])) (rvOpd (copy (place 5 (field 2 ∷ [])))))
-    (assign (place 4 []) (op2 (add unsigned) (copy (place 4 [])) (int w64 1)))))))))))))))))
+    (seq (assign (place 9 []) (op2 (mul unsigned) (copy (place 4 [])) (int w64 2)))
+    (seq (assign (place 16 []) (addrOf (place 3 (field 3 ∷ []))))
+    (seq (assign (place 17 []) (op2 offset (copy (place 16 [])) (copy (place 9 []))))
+    (seq (assign (place 17 (deref (tyInt w16) ∷ [])) (rvOpd (copy (place 5 (field 3 ∷ [])))))
+    (assign (place 4 []) (op2 (add unsigned) (copy (place 4 [])) (int w64 1)))))))))))))))))))))
 
 abbrev rest : Code
 rest = seq (assign (place 0 []) (rvOpd (copy (place 3 [])))) return
@@ -133,7 +137,8 @@ locals-are : code.function .locals ≡
     valueLocal ∷ local T′.mir valueLocal ∷
     local word valueLocal ∷ local B′.mir valueLocal ∷ local tyBool valueLocal ∷ local word valueLocal ∷ local tyPtr
     valueLocal ∷ local tyPtr valueLocal ∷
-    local tyPtr valueLocal ∷ local tyPtr valueLocal ∷ local tyPtr valueLocal ∷ local tyPtr valueLocal ∷ []
+    local tyPtr valueLocal ∷ local tyPtr valueLocal ∷ local tyPtr valueLocal ∷ local tyPtr valueLocal ∷ local tyPtr
+    valueLocal ∷ local tyPtr valueLocal ∷ []
 locals-are = refl
 
 abbrev stayed : Stays (load.ended .signature .params) (load.ended .kept)
@@ -195,8 +200,11 @@ module _ {M : Type 1} (𝓤 : URA M) (H : Heap 𝓤) (A : Atoms 𝓤) (W : Given
   long-dst : (i : ℕ) → IsColumns (tab i) → length (values (tab i .dst)) ≡ 512
   long-dst i p = values-long 512 (tab i .dst) (LL.owed B.the-type B′.the-laws (tab i) _ p .1 .0)
 
+  long-len : (i : ℕ) → IsColumns (tab i) → length (values (tab i .len)) ≡ 512
+  long-len i p = values-long 512 (tab i .len) (LL.owed B.the-type B′.the-laws (tab i) _ p .1 .1 .0)
+
   long-due : (i : ℕ) → IsColumns (tab i) → length (values (tab i .due)) ≡ 512
-  long-due i p = values-long 512 (tab i .due) (LL.owed B.the-type B′.the-laws (tab i) _ p .1 .1 .0)
+  long-due i p = values-long 512 (tab i .due) (LL.owed B.the-type B′.the-laws (tab i) _ p .1 .1 .1 .0)
 
   abbrev Post : Val → SProp 𝓤
   Post = walkOf 𝓤 H A load.ended stayed (load.clauses 𝓤 H A mem run) .post (((κ, tt), (q, tt), tt, (rows, tt), at), tt)
@@ -258,21 +266,24 @@ module _ {M : Type 1} (𝓤 : URA M) (H : Heap 𝓤) (A : Atoms 𝓤) (W : Given
       (rows, (i, tt)) tt r) (fact 𝓤 (r ≡ row i))
   said-row i r = exE 𝓤 _ (λ ws. snd∗ 𝓤 (sem 𝓤 H A (lasts row-at.ended (κ, tt) (rows, (i, tt)) ws)) (fact 𝓤 (r ≡ row i)))
 
-  -- the machine value after the three stores is that of the columns of one more row
+  -- the machine value after the four stores is that of the columns of one more row
   next-is : (i : ℕ) → i < 512
       → vstruct (vcons (vstruct (ofList (set (values (tab i .src)) i (vint w16 (row i .src)))))
       (vcons (vstruct (ofList (set (values (tab i .dst)) i (vint w16 (row i .dst)))))
-      (vcons (vstruct (ofList (set (values (tab i .due)) i (vint w16 (row i .due))))) vnil)))
+      (vcons (vstruct (ofList (set (values (tab i .len)) i (vint w16 (row i .len)))))
+      (vcons (vstruct (ofList (set (values (tab i .due)) i (vint w16 (row i .due))))) vnil))))
       ≡ machine (tab (suc i))
   next-is i small =
-      three (values-set (tab i .src) i (row i .src)) (values-set (tab i .dst) i (row i .dst))
-      (values-set (tab i .due) i (row i .due)) ∙ ap machine (sym (columns-more ys i small))
+      four (values-set (tab i .src) i (row i .src)) (values-set (tab i .dst) i (row i .dst))
+      (values-set (tab i .len) i (row i .len)) (values-set (tab i .due) i (row i .due))
+      ∙ ap machine (sym (columns-more ys i small))
     where
-      three : {a a′ d d′ e e′ : List Val} → a′ ≡ a → d′ ≡ d → e′ ≡ e
+      four : {a a′ d d′ e e′ f f′ : List Val} → a′ ≡ a → d′ ≡ d → e′ ≡ e → f′ ≡ f
           → vstruct (vcons (vstruct (ofList a)) (vcons (vstruct (ofList d))
-          (vcons (vstruct (ofList e)) vnil))) ≡ vstruct
-          (vcons (vstruct (ofList a′)) (vcons (vstruct (ofList d′)) (vcons (vstruct (ofList e′)) vnil)))
-      three h₁ h₂ h₃ = cc (h₁, h₂, h₃)
+          (vcons (vstruct (ofList e)) (vcons (vstruct (ofList f)) vnil)))) ≡ vstruct
+          (vcons (vstruct (ofList a′)) (vcons (vstruct (ofList d′))
+          (vcons (vstruct (ofList e′)) (vcons (vstruct (ofList f′)) vnil))))
+      four h₁ h₂ h₃ h₄ = cc (h₁, h₂, h₃, h₄)
 
   module _ (𝓣 : Tables 𝓤 H) (g : Room R n) (known-row : Triple 𝓤 (𝓣 .C #lent·row-at) (RowAt 𝓤 H A mem run)) where
     abbrev C : Calls 𝓤 H
@@ -284,7 +295,7 @@ module _ {M : Type 1} (𝓤 : URA M) (H : Heap 𝓤) (A : Atoms 𝓤) (W : Given
     abbrev fm : FmC 𝓤 H (W .laws) C
     fm = fmOf 𝓤 H (W .laws) 𝓣
 
-    module _ (l₀ l₁ l₂ l₃ l₄ l₅ l₆ l₇ l₈ l₉ l₁₀ l₁₁ l₁₂ l₁₃ l₁₄ l₁₅ : ℕ) where
+    module _ (l₀ l₁ l₂ l₃ l₄ l₅ l₆ l₇ l₈ l₉ l₁₀ l₁₁ l₁₂ l₁₃ l₁₄ l₁₅ l₁₆ l₁₇ : ℕ) where
       abbrev En : Env 𝓤 H
       En =
           (B′.mir, l₀) ∷ (slice, l₁) ∷ (word, l₂) ∷ (B′.mir, l₃) ∷ (word, l₄) ∷ (T′.mir, l₅) ∷ (word, l₆) ∷ (
@@ -293,7 +304,7 @@ module _ {M : Type 1} (𝓤 : URA M) (H : Heap 𝓤) (A : Atoms 𝓤) (W : Given
           ) ∷ (tyBool, l₈) ∷ (word, l₉) ∷ (tyPtr, l₁₀) ∷ (tyPtr, l₁₁) ∷ (tyPtr, l₁₂) ∷ (tyPtr, l₁₃) ∷ (
             tyPtr,
             l₁₄,
-          ) ∷ (tyPtr, l₁₅) ∷ []
+          ) ∷ (tyPtr, l₁₅) ∷ (tyPtr, l₁₆) ∷ (tyPtr, l₁₇) ∷ []
 
       -- the columns of the first i rows are loaded. Local j is entry j
       abbrev At : ℕ → List (Item 𝓤)
@@ -303,12 +314,13 @@ module _ {M : Type 1} (𝓤 : URA M) (H : Heap 𝓤) (A : Atoms 𝓤) (W : Given
           ∷ ‵ (froom T′.mir l₅ 0) ∷ ‵ (froom word l₆ 0) ∷ ‵ (froom B′.mir l₇ 0) ∷ ‵ (froom tyBool l₈ 0) ∷ ‵
           (froom word l₉ 0) ∷ ‵ (froom tyPtr l₁₀ 0) ∷ ‵ (froom tyPtr l₁₁ 0) ∷ ‵ (froom tyPtr l₁₂ 0) ∷ ‵
           (froom tyPtr l₁₃ 0) ∷ ‵ (froom tyPtr l₁₄ 0) ∷ ‵ (froom tyPtr l₁₅ 0)
+          ∷ ‵ (froom tyPtr l₁₆ 0) ∷ ‵ (froom tyPtr l₁₇ 0)
           ∷ ‵ (flft κ q) ∷ ‵ OwnS
           ∷ ‵ (fdies B′.mir l₀) ∷ ‵ (fdies slice l₁) ∷ ‵ (fdies word l₂) ∷ ‵ (fdies B′.mir l₃) ∷ ‵ (fdies word l₄) ∷ ‵
           (fdies T′.mir l₅) ∷ ‵ (fdies word l₆) ∷ ‵ (fdies B′.mir l₇)
           ∷ ‵ (fdies tyBool l₈) ∷ ‵ (fdies word l₉) ∷ ‵ (fdies tyPtr l₁₀) ∷ ‵ (fdies tyPtr l₁₁) ∷ ‵
           (fdies tyPtr l₁₂) ∷ ‵ (fdies tyPtr l₁₃) ∷ ‵ (fdies tyPtr l₁₄)
-          ∷ ‵ (fdies tyPtr l₁₅) ∷ []
+          ∷ ‵ (fdies tyPtr l₁₅) ∷ ‵ (fdies tyPtr l₁₆) ∷ ‵ (fdies tyPtr l₁₇) ∷ []
 
       abbrev Facts : ℕ → ℕ → Type 0
       Facts t i = (t + i ≡ m) × IsColumns (tab i)
@@ -335,7 +347,7 @@ module _ {M : Type 1} (𝓤 : URA M) (H : Heap 𝓤) (A : Atoms 𝓤) (W : Given
           (from ! (stop !)) (init ! 8 refl (tt, tt)) $
           rewrite ! 8 (λ (t : Bool). ‵ (fat fullShare tyBool l₈ 0 (vbool t))) (lt-ltb i m small) refl $
           stays ! (loads ! (from ! (stop !)) (look ! 8 refl)) $
-          move ! (16 ∷ 17 ∷ []) $ use2 W (raw (RowAt 𝓤 H A mem run .pre (to-row i)) ⊛ ‵ OwnS)
+          move ! (18 ∷ 19 ∷ []) $ use2 W (raw (RowAt 𝓤 H A mem run .pre (to-row i)) ⊛ ‵ OwnS)
           (goes-row i fits (omega arith)) $ split ! $
           -- [what row_at asks; the slice's; local j at j + 2; …]
           calls-at ! fm (RowAt 𝓤 H A mem run) known-row (to-row i)
@@ -372,7 +384,7 @@ module _ {M : Type 1} (𝓤 : URA M) (H : Heap 𝓤) (A : Atoms 𝓤) (W : Given
           (from ! (hop ! (look ! 15 refl) (stop !)))
           (store-in ! 5 (elem ! (values (tab i .dst)) i vunit (long-dst i p) (omega (arith, long-dst i p))
           (sub ! 1 refl (whole !))) (tt, typed-row (row i) (row-is r (row i) v is e .1) .1 .1 .0)) $
-          -- the due slot
+          -- the length
           assigns ! (bin ! (loads ! (from ! (stop !)) (look ! 6 refl)) (lit ! tt) wide) (from ! (stop !))
           (store ! 11 refl (tt, wide)) $
           assigns ! (addr ! (from ! (fld ! refl (stop !)))) (from ! (stop !)) (init ! 16 refl (tt, tt)) $
@@ -381,15 +393,26 @@ module _ {M : Type 1} (𝓤 : URA M) (H : Heap 𝓤) (A : Atoms 𝓤) (W : Given
           rewrite ! 17 (λ (o′ : ℕ). ‵ (fat fullShare tyPtr l₁₅ 0 (vptr l₃ o′))) (sym (place-is 2 2048 i)) refl $
           assigns ! (of-opd ! (loads ! (from ! (fld ! refl (stop !))) (look-in ! 7 (sub ! 2 refl (whole !)))))
           (from ! (hop ! (look ! 17 refl) (stop !)))
-          (store-in ! 5 (elem ! (values (tab i .due)) i vunit (long-due i p) (omega (arith, long-due i p))
+          (store-in ! 5 (elem ! (values (tab i .len)) i vunit (long-len i p) (omega (arith, long-len i p))
           (sub ! 2 refl (whole !))) (tt, typed-row (row i) (row-is r (row i) v is e .1) .1 .1 .1 .0)) $
+          -- the due slot
+          assigns ! (bin ! (loads ! (from ! (stop !)) (look ! 6 refl)) (lit ! tt) wide) (from ! (stop !))
+          (store ! 11 refl (tt, wide)) $
+          assigns ! (addr ! (from ! (fld ! refl (stop !)))) (from ! (stop !)) (init ! 18 refl (tt, tt)) $
+          assigns ! (bin ! (loads ! (from ! (stop !)) (look ! 18 refl)) (loads ! (from ! (stop !)) (look ! 11 refl)) tt)
+          (from ! (stop !)) (init ! 19 refl (tt, tt)) $
+          rewrite ! 19 (λ (o′ : ℕ). ‵ (fat fullShare tyPtr l₁₇ 0 (vptr l₃ o′))) (sym (place-is 2 3072 i)) refl $
+          assigns ! (of-opd ! (loads ! (from ! (fld ! refl (stop !))) (look-in ! 7 (sub ! 3 refl (whole !)))))
+          (from ! (hop ! (look ! 19 refl) (stop !)))
+          (store-in ! 5 (elem ! (values (tab i .due)) i vunit (long-due i p) (omega (arith, long-due i p))
+          (sub ! 3 refl (whole !))) (tt, typed-row (row i) (row-is r (row i) v is e .1) .1 .1 .1 .1 .0)) $
           rewrite ! 5 (λ (x : Val). ‵ (fat fullShare B′.mir l₃ 0 x)) (next-is i (omega arith)) refl $
           assigns-last ! (bin ! (loads ! (from ! (stop !)) (look ! 6 refl)) (lit ! tt) (record { fits = next }))
           (from ! (stop !)) (store ! 6 refl (tt, record { fits = next })) $
           forget ! 7 refl $ forget ! 10 refl $ forget ! 11 refl $ forget ! 12 refl $ forget ! 13 refl $ forget ! 14 refl
-          $ forget ! 15 refl $ forget ! 16 refl $ forget ! 17 refl $
+          $ forget ! 15 refl $ forget ! 16 refl $ forget ! 17 refl $ forget ! 18 refl $ forget ! 19 refl $
           rewrite ! 6 (λ (j : ℕ). ‵ (fat fullShare word l₄ 0 (vint w64 j))) (add-one i) refl $ split ! $
-          keep ! (3 ∷ 4 ∷ 5 ∷ 6 ∷ 7 ∷ 8 ∷ 9 ∷ 10 ∷ 11 ∷ 12 ∷ 13 ∷ 14 ∷ 15 ∷ 16 ∷ 17 ∷ 18 ∷ 0 ∷ 2 ∷ 19 ∷ 20 ∷ 21 ∷ 22 ∷ 23 ∷ 24 ∷ 25 ∷ 26 ∷ 27 ∷ 28 ∷ 29 ∷ 30 ∷ 31 ∷ 32 ∷ 33 ∷ 34 ∷ []) $ by ! (k (subst IsColumns (sym (columns-more ys i (omega arith))) (columns-stored (tab i) i (row i) p (row-is r (row i) v is e .1))))))))
+          keep ! (3 ∷ 4 ∷ 5 ∷ 6 ∷ 7 ∷ 8 ∷ 9 ∷ 10 ∷ 11 ∷ 12 ∷ 13 ∷ 14 ∷ 15 ∷ 16 ∷ 17 ∷ 18 ∷ 19 ∷ 20 ∷ 0 ∷ 2 ∷ 21 ∷ 22 ∷ 23 ∷ 24 ∷ 25 ∷ 26 ∷ 27 ∷ 28 ∷ 29 ∷ 30 ∷ 31 ∷ 32 ∷ 33 ∷ 34 ∷ 35 ∷ 36 ∷ 37 ∷ 38 ∷ []) $ by ! (k (subst IsColumns (sym (columns-more ys i (omega arith))) (columns-stored (tab i) i (row i) p (row-is r (row i) v is e .1))))))))
         where
           next : i + 1 < 2 ^ 64
           next = omega (arith, g .0)
@@ -413,6 +436,7 @@ module _ {M : Type 1} (𝓤 : URA M) (H : Heap 𝓤) (A : Atoms 𝓤) (W : Given
           (init ! 0 refl (LL.lawful B.the-type B′.the-laws 𝓤 H A W .typed (tab m) _ p .0)) $
           returns ! (look ! 0 refl) $ forget ! 0 refl $ forget ! 1 refl $ forget ! 2 refl $ forget ! 3 refl
           $ forget ! 4 refl $ forget ! 8 refl $
+          move ! (0 ∷ 20 ∷ []) $ free1 ! $ move ! (0 ∷ 19 ∷ []) $ free1 ! $
           move ! (0 ∷ 18 ∷ []) $ free1 ! $ move ! (0 ∷ 17 ∷ []) $ free1 ! $ move ! (0 ∷ 16 ∷ []) $ free1 !
           $ move ! (0 ∷ 15 ∷ []) $ free1 ! $ move ! (0 ∷ 14 ∷ []) $ free1 ! $
           move ! (0 ∷ 13 ∷ []) $ free1 ! $ move ! (0 ∷ 12 ∷ []) $ free1 ! $ move ! (0 ∷ 11 ∷ []) $ free1 !
@@ -459,23 +483,24 @@ module _ {M : Type 1} (𝓤 : URA M) (H : Heap 𝓤) (A : Atoms 𝓤) (W : Given
         (λ l₃. alloc1 ! (λ l₄. alloc1 ! (λ l₅. alloc1 !
         (λ l₆. alloc1 ! (λ l₇. alloc1 ! (λ l₈. alloc1 !
         (λ l₉. alloc1 ! (λ l₁₀. alloc1 ! (λ l₁₁. alloc1 !
-        (λ l₁₂. alloc1 ! (λ l₁₃. alloc1 ! (λ l₁₄. alloc1 ! (λ l₁₅. alloc0 ! $ params1 ! $
-        -- local j stands at 30 - 2 j
-        pass1 ! (init ! 28 refl (tt, (tt, (record { fits = g .0 }, tt)))) $ pass0 ! $
-        assigns ! (of-opd ! (loads ! (from ! (fld ! refl (stop !))) (look-in ! 28 (sub ! 1 refl (whole !)))))
-        (from ! (stop !)) (init ! 18 refl (tt, record { fits = g .0 })) $
+        (λ l₁₂. alloc1 ! (λ l₁₃. alloc1 ! (λ l₁₄. alloc1 ! (λ l₁₅. alloc1 !
+        (λ l₁₆. alloc1 ! (λ l₁₇. alloc0 ! $ params1 ! $
+        -- local j stands at 34 - 2 j
+        pass1 ! (init ! 32 refl (tt, (tt, (record { fits = g .0 }, tt)))) $ pass0 ! $
+        assigns ! (of-opd ! (loads ! (from ! (fld ! refl (stop !))) (look-in ! 32 (sub ! 1 refl (whole !)))))
+        (from ! (stop !)) (init ! 22 refl (tt, record { fits = g .0 })) $
         nothing ! $ use1 W (raw (AtMost 𝓤 H A mem run .pre to-count)) (goes-count (g .0)) $
         calls-at ! fm (AtMost 𝓤 H A mem run) known-count to-count
-        (and-then ! (loads ! (from ! (stop !)) (look ! 19 refl)) (no-more !)) (λ v.
+        (and-then ! (loads ! (from ! (stop !)) (look ! 23 refl)) (no-more !)) (λ v.
         use1 W (later (some (λ (k : ℕ). (‵ ftrue ⊛ ‵ (usize .own k (v ∷ []))) ⊛ raw
         (ensured 𝓤 H A at-most.ended (at-most.clauses 𝓤 H A mem run) tt (n, tt) tt k)))) (id⊢ 𝓤 _) $ await ! tt
         $ pick ! (λ k.
         split ! $ move ! (1 ∷ []) $ use1 W (raw (fact 𝓤 (k ≡ m))) (said-count k)
         $ heard ! (k ≡ m) (λ e. split ! $ drop ! $
         peeks ! usize (Is usize) (shows 𝓤 H A usize) k (v ∷ []) (λ is.
-        land ! (from ! (stop !)) (init ! 27 refl (subst (λ (x : Val). Holds (hasTy word x) × WT x)
+        land ! (from ! (stop !)) (init ! 31 refl (subst (λ (x : Val). Holds (hasTy word x) × WT x)
         (sym (count-is k v is e)) (tt, record { fits = omega (arith, g .0) }))) $
-        rewrite ! 27 (λ (x : Val). ‵ (fat fullShare word l₂ 0 x)) (count-is k v is e) refl $ drop ! $
+        rewrite ! 31 (λ (x : Val). ‵ (fat fullShare word l₂ 0 x)) (count-is k v is e) refl $ drop ! $
         nothing ! $ use1 W (raw (Blank 𝓤 H A mem run .pre to-blank)) goes-blank $
         calls-at ! fm (Blank 𝓤 H A mem run) known-blank to-blank (no-more !) (λ w.
         use1 W (later (some (λ (r : Columns). (‵ ftrue ⊛ ‵ (TR .own r (w ∷ []))) ⊛ raw
@@ -484,17 +509,17 @@ module _ {M : Type 1} (𝓤 : URA M) (H : Heap 𝓤) (A : Atoms 𝓤) (W : Given
         split ! $ move ! (1 ∷ []) $ use1 W (raw (fact 𝓤 (r ≡ tab 0))) (said-blank r)
         $ heard ! (r ≡ tab 0) (λ e₂. split ! $ drop ! $
         peeks ! TR (Is TR) (shows 𝓤 H A TR) r (w ∷ []) (λ is₂.
-        land ! (from ! (stop !)) (init ! 17 refl (LL.lawful B.the-type B′.the-laws 𝓤 H A W .typed r _ is₂ .0)) $
-        rewrite ! 17 (λ (x : Val). ‵ (fat fullShare B′.mir l₇ 0 x)) (columns-are r (tab 0) w is₂ e₂ .0) refl $ drop ! $
-        assigns ! (of-opd ! (loads ! (from ! (stop !)) (look ! 16 refl))) (from ! (stop !))
-        (init ! 24 refl (LL.lawful B.the-type B′.the-laws 𝓤 H A W .typed (tab 0) _
+        land ! (from ! (stop !)) (init ! 21 refl (LL.lawful B.the-type B′.the-laws 𝓤 H A W .typed r _ is₂ .0)) $
+        rewrite ! 21 (λ (x : Val). ‵ (fat fullShare B′.mir l₇ 0 x)) (columns-are r (tab 0) w is₂ e₂ .0) refl $ drop ! $
+        assigns ! (of-opd ! (loads ! (from ! (stop !)) (look ! 20 refl))) (from ! (stop !))
+        (init ! 28 refl (LL.lawful B.the-type B′.the-laws 𝓤 H A W .typed (tab 0) _
         (columns-are r (tab 0) w is₂ e₂ .1) .0)) $
-        assigns ! (of-opd ! (lit ! tt)) (from ! (stop !)) (init ! 22 refl (tt, record { fits = lit< tt })) $
-        forget ! 18 refl $ forget ! 16 refl $
-        move ! (33 ∷ []) $ fsplit ! $ move ! (34 ∷ []) $ split ! $
-        keep ! (34 ∷ 32 ∷ 30 ∷ 28 ∷ 26 ∷ 24 ∷ 22 ∷ 20 ∷ 18 ∷ 16 ∷ 14 ∷ 12 ∷ 10 ∷ 8 ∷ 6 ∷ 4 ∷ 0 ∷ 2 ∷ 35 ∷ 33 ∷ 31 ∷ 29 ∷ 27 ∷ 25 ∷ 23 ∷ 21 ∷ 19 ∷ 17 ∷ 15 ∷ 13 ∷ 11 ∷ 9 ∷ 7 ∷ 5 ∷ []) $
-        start l₀ l₁ l₂ l₃ l₄ l₅ l₆ l₇ l₈ l₉ l₁₀ l₁₁ l₁₂ l₁₃ l₁₄ l₁₅
-        (columns-are r (tab 0) w is₂ e₂ .1)))))))))))))))))))))))))
+        assigns ! (of-opd ! (lit ! tt)) (from ! (stop !)) (init ! 26 refl (tt, record { fits = lit< tt })) $
+        forget ! 22 refl $ forget ! 20 refl $
+        move ! (37 ∷ []) $ fsplit ! $ move ! (38 ∷ []) $ split ! $
+        keep ! (38 ∷ 36 ∷ 34 ∷ 32 ∷ 30 ∷ 28 ∷ 26 ∷ 24 ∷ 22 ∷ 20 ∷ 18 ∷ 16 ∷ 14 ∷ 12 ∷ 10 ∷ 8 ∷ 6 ∷ 4 ∷ 0 ∷ 2 ∷ 39 ∷ 37 ∷ 35 ∷ 33 ∷ 31 ∷ 29 ∷ 27 ∷ 25 ∷ 23 ∷ 21 ∷ 19 ∷ 17 ∷ 15 ∷ 13 ∷ 11 ∷ 9 ∷ 7 ∷ 5 ∷ []) $
+        start l₀ l₁ l₂ l₃ l₄ l₅ l₆ l₇ l₈ l₉ l₁₀ l₁₁ l₁₂ l₁₃ l₁₄ l₁₅ l₁₆ l₁₇
+        (columns-are r (tab 0) w is₂ e₂ .1)))))))))))))))))))))))))))
 
 module _ {M : Type 1} (𝓤 : URA M) (H : Heap 𝓤) (A : Atoms 𝓤) (W : Given 𝓤 H A) (mem : Memory → SProp 𝓤)
     (run : Routine → Fun 𝓤) (𝓣 : Tables 𝓤 H)

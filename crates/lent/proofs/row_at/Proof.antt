@@ -1,4 +1,4 @@
--- `lent::row_at` meets its contract: a walk of its MIR, by hand. The place of `rows[i]` is i * 6 past the slice's
+-- `lent::row_at` meets its contract: a walk of its MIR, by hand. The place of `rows[i]` is i * 8 past the slice's
 -- pointer, and the row is copied out of there.
 -- The code does not test the bound: that i is below the length is what the contract asks.
 -- Assumes nothing.
@@ -97,7 +97,7 @@ module _ {M : Type 1} (𝓤 : URA M) (H : Heap 𝓤) (A : Atoms 𝓤) (W : Given
         (init ! 4 refl (tt, wide)) $
         assigns ! (bin ! (load ! (from ! (fld ! refl (stop !))) (look-in ! 8 (sub ! 0 refl (whole !))))
         (load ! (from ! (stop !)) (look ! 4 refl)) tt) (from ! (stop !)) (init ! 2 refl (tt, tt)) $
-        rewrite ! 2 (λ (p : ℕ). ‵ (fat fullShare tyPtr l₄ 0 (vptr b p))) (sym (place-is 6 o i)) refl $
+        rewrite ! 2 (λ (p : ℕ). ‵ (fat fullShare tyPtr l₄ 0 (vptr b p))) (sym (place-is 8 o i)) refl $
         move ! (13 ∷ []) $ fsplit ! $ fsplit ! $ move ! (1 ∷ []) $ fsplit ! $ move ! (16 ∷ []) $ split !
         $ move ! (3 ∷ 0 ∷ []) $
         looks-slice ! tt R (Is R) (shows 𝓤 H A R) (LL.vals T.the-type T′.the-laws) (LL.tells T.the-type T′.the-laws)
@@ -119,8 +119,8 @@ module _ {M : Type 1} (𝓤 : URA M) (H : Heap 𝓤) (A : Atoms 𝓤) (W : Given
         move ! (3 ∷ 1 ∷ []) $ fjoin ! $ move ! (3 ∷ 0 ∷ []) $ fjoin ! $ move ! (3 ∷ []) $ fsplit !
         $ keep ! (3 ∷ 2 ∷ 0 ∷ []) $ by ! (exits g)))))))))
       where
-        wide : Fits w64 (i * 6)
-        wide = scaled-fits i (length ys) 6 l (gn .1)
+        wide : Fits w64 (i * 8)
+        wide = scaled-fits i (length ys) 8 l (gn .1)
 
 module _ {M : Type 1} (𝓤 : URA M) (H : Heap 𝓤) (A : Atoms 𝓤) (W : Given 𝓤 H A) (mem : Memory → SProp 𝓤)
     (run : Routine → Fun 𝓤) where

@@ -102,11 +102,16 @@ turn =
     (seq (assign (place 17 []) (addrOf (place 4 (field 2 ∷ []))))
     (seq (assign (place 18 []) (op2 offset (copy (place 17 [])) (copy (place 16 []))))
     (seq (assign (place 19 []) (rvOpd (copy (place 18 (deref half ∷ [])))))
-    (seq (assign (place 6 []) (aggregate (copy (place 11 []) ∷ copy (place 15 []) ∷ copy (place 19 []) ∷ [])))
-    (seq (assign (place 8 []) (op2 (mul unsigned) (copy (place 5 [])) (int w64 6)))
-    (seq (assign (place 20 []) (op2 offset (copy (place 1 (field 0 ∷ []))) (copy (place 8 []))))
-    (seq (assign (place 20 (deref T′.mir ∷ [])) (rvOpd (copy (place 6 []))))
-    (assign (place 5 []) (op2 (add unsigned) (copy (place 5 [])) (int w64 1))))))))))))))))))))
+    (seq (assign (place 20 []) (op2 (mul unsigned) (copy (place 5 [])) (int w64 2)))
+    (seq (assign (place 21 []) (addrOf (place 4 (field 3 ∷ []))))
+    (seq (assign (place 22 []) (op2 offset (copy (place 21 [])) (copy (place 20 []))))
+    (seq (assign (place 23 []) (rvOpd (copy (place 22 (deref half ∷ [])))))
+    (seq (assign (place 6 []) (aggregate (copy (place 11 []) ∷ copy (place 15 []) ∷ copy (place 19 []) ∷
+    copy (place 23 []) ∷ [])))
+    (seq (assign (place 8 []) (op2 (mul unsigned) (copy (place 5 [])) (int w64 8)))
+    (seq (assign (place 24 []) (op2 offset (copy (place 1 (field 0 ∷ []))) (copy (place 8 []))))
+    (seq (assign (place 24 (deref T′.mir ∷ [])) (rvOpd (copy (place 6 []))))
+    (assign (place 5 []) (op2 (add unsigned) (copy (place 5 [])) (int w64 1))))))))))))))))))))))))
 
 abbrev rest : Code
 rest = seq (assign (place 0 []) (rvOpd opdUnit)) return
@@ -122,7 +127,8 @@ locals-are : code.function .locals ≡
     valueLocal ∷ local half valueLocal ∷
     local word valueLocal ∷ local tyPtr valueLocal ∷ local tyPtr valueLocal ∷ local half valueLocal ∷ local word
     valueLocal ∷ local tyPtr valueLocal ∷
-    local tyPtr valueLocal ∷ local half valueLocal ∷ local tyPtr valueLocal ∷ []
+    local tyPtr valueLocal ∷ local half valueLocal ∷ local word valueLocal ∷ local tyPtr valueLocal ∷ local tyPtr
+    valueLocal ∷ local half valueLocal ∷ local tyPtr valueLocal ∷ []
 locals-are = refl
 
 abbrev stayed : Stays (store-rows.ended .signature .params) (store-rows.ended .kept)
@@ -182,8 +188,11 @@ module _ {M : Type 1} (𝓤 : URA M) (H : Heap 𝓤) (A : Atoms 𝓤) (W : Given
     long-dst : length (values (c .dst)) ≡ 512
     long-dst = values-long 512 (c .dst) (LL.owed B.the-type B′.the-laws c _ p .1 .0)
 
+    long-len : length (values (c .len)) ≡ 512
+    long-len = values-long 512 (c .len) (LL.owed B.the-type B′.the-laws c _ p .1 .1 .0)
+
     long-due : length (values (c .due)) ≡ 512
-    long-due = values-long 512 (c .due) (LL.owed B.the-type B′.the-laws c _ p .1 .1 .0)
+    long-due = values-long 512 (c .due) (LL.owed B.the-type B′.the-laws c _ p .1 .1 .1 .0)
 
     abbrev C : Calls 𝓤 H
     C = 𝓣 .C
@@ -191,7 +200,7 @@ module _ {M : Type 1} (𝓤 : URA M) (H : Heap 𝓤) (A : Atoms 𝓤) (W : Given
     abbrev Λ : Loops 𝓤 H
     Λ = 𝓣 .Λ
 
-    module _ (l₀ l₁ l₂ l₃ l₄ l₅ l₆ l₇ l₈ l₉ l₁₀ l₁₁ l₁₂ l₁₃ l₁₄ l₁₅ l₁₆ l₁₇ l₁₈ l₁₉ l₂₀ : ℕ) where
+    module _ (l₀ l₁ l₂ l₃ l₄ l₅ l₆ l₇ l₈ l₉ l₁₀ l₁₁ l₁₂ l₁₃ l₁₄ l₁₅ l₁₆ l₁₇ l₁₈ l₁₉ l₂₀ l₂₁ l₂₂ l₂₃ l₂₄ : ℕ) where
       abbrev En : Env 𝓤 H
       En =
           (tyUnit, l₀) ∷ (slice, l₁) ∷ (B′.mir, l₂) ∷ (word, l₃) ∷ (B′.mir, l₄) ∷ (word, l₅) ∷ (T′.mir, l₆) ∷ (
@@ -201,7 +210,7 @@ module _ {M : Type 1} (𝓤 : URA M) (H : Heap 𝓤) (A : Atoms 𝓤) (W : Given
           (word, l₁₂) ∷ (tyPtr, l₁₃) ∷ (tyPtr, l₁₄) ∷ (half, l₁₅) ∷ (word, l₁₆) ∷ (tyPtr, l₁₇) ∷ (tyPtr, l₁₈) ∷ (
             half,
             l₁₉,
-          ) ∷ (tyPtr, l₂₀) ∷ []
+          ) ∷ (word, l₂₀) ∷ (tyPtr, l₂₁) ∷ (tyPtr, l₂₂) ∷ (half, l₂₃) ∷ (tyPtr, l₂₄) ∷ []
 
       -- the first i rows are written. Local j is entry j
       abbrev At : ℕ → List (Item 𝓤)
@@ -213,14 +222,15 @@ module _ {M : Type 1} (𝓤 : URA M) (H : Heap 𝓤) (A : Atoms 𝓤) (W : Given
           (froom tyPtr l₁₀ 0) ∷ ‵ (froom half l₁₁ 0) ∷ ‵ (froom word l₁₂ 0)
           ∷ ‵ (froom tyPtr l₁₃ 0) ∷ ‵ (froom tyPtr l₁₄ 0) ∷ ‵ (froom half l₁₅ 0) ∷ ‵ (froom word l₁₆ 0) ∷ ‵
           (froom tyPtr l₁₇ 0) ∷ ‵ (froom tyPtr l₁₈ 0) ∷ ‵ (froom half l₁₉ 0)
-          ∷ ‵ (froom tyPtr l₂₀ 0)
+          ∷ ‵ (froom word l₂₀ 0) ∷ ‵ (froom tyPtr l₂₁ 0) ∷ ‵ (froom tyPtr l₂₂ 0) ∷ ‵ (froom half l₂₃ 0)
+          ∷ ‵ (froom tyPtr l₂₄ 0)
           ∷ ‵ (fobs γ (codedHoleys R .code (heres R (zs i)))) ∷ ‵ (fbor κ (Held R (length (zs i)) b o γ)) ∷ ‵ (flft κ q)
           ∷ ‵ (fdies tyUnit l₀) ∷ ‵ (fdies slice l₁) ∷ ‵ (fdies B′.mir l₂) ∷ ‵ (fdies word l₃) ∷ ‵ (fdies B′.mir l₄) ∷ ‵
           (fdies word l₅) ∷ ‵ (fdies T′.mir l₆) ∷ ‵ (fdies tyBool l₇)
           ∷ ‵ (fdies word l₈) ∷ ‵ (fdies tyPtr l₉) ∷ ‵ (fdies tyPtr l₁₀) ∷ ‵ (fdies half l₁₁) ∷ ‵ (fdies word l₁₂) ∷ ‵
           (fdies tyPtr l₁₃) ∷ ‵ (fdies tyPtr l₁₄) ∷ ‵ (fdies half l₁₅)
           ∷ ‵ (fdies word l₁₆) ∷ ‵ (fdies tyPtr l₁₇) ∷ ‵ (fdies tyPtr l₁₈) ∷ ‵ (fdies half l₁₉) ∷ ‵
-          (fdies tyPtr l₂₀) ∷ []
+          (fdies word l₂₀) ∷ ‵ (fdies tyPtr l₂₁) ∷ ‵ (fdies tyPtr l₂₂) ∷ ‵ (fdies half l₂₃) ∷ ‵ (fdies tyPtr l₂₄) ∷ []
 
       -- the invariant, where u rows are left
       abbrev Inv : ℕ → SProp 𝓤
@@ -267,7 +277,7 @@ module _ {M : Type 1} (𝓤 : URA M) (H : Heap 𝓤) (A : Atoms 𝓤) (W : Given
           (sub ! 1 refl (whole !)))))) (from ! (stop !))
           (init ! 15 refl (typed-at (c .dst) i (typed .1 .1 .0))) $
           rewrite ! 15 (λ (v : Val). ‵ (fat fullShare half l₁₅ 0 v)) (values-at (c .dst) i) refl $
-          -- the due slot
+          -- the length
           assigns ! (bin ! (loads ! (from ! (stop !)) (look ! 5 refl)) (lit ! tt) wide) (from ! (stop !))
           (init ! 16 refl (tt, wide)) $
           assigns ! (addr ! (from ! (fld ! refl (stop !)))) (from ! (stop !)) (init ! 17 refl (tt, tt)) $
@@ -275,25 +285,38 @@ module _ {M : Type 1} (𝓤 : URA M) (H : Heap 𝓤) (A : Atoms 𝓤) (W : Given
           (from ! (stop !)) (init ! 18 refl (tt, tt)) $
           rewrite ! 18 (λ (o′ : ℕ). ‵ (fat fullShare tyPtr l₁₈ 0 (vptr l₄ o′))) (sym (place-is 2 2048 i)) refl $
           assigns ! (of-opd ! (loads ! (from ! (hop ! (look ! 18 refl) (stop !)))
-          (look-in ! 4 (elem ! (values (c .due)) i (vint w16 0) (long-due) (omega (arith, long-due))
+          (look-in ! 4 (elem ! (values (c .len)) i (vint w16 0) (long-len) (omega (arith, long-len))
           (sub ! 2 refl (whole !)))))) (from ! (stop !))
-          (init ! 19 refl (typed-at (c .due) i (typed .1 .1 .1 .0))) $
-          rewrite ! 19 (λ (v : Val). ‵ (fat fullShare half l₁₉ 0 v)) (values-at (c .due) i) refl $
+          (init ! 19 refl (typed-at (c .len) i (typed .1 .1 .1 .0))) $
+          rewrite ! 19 (λ (v : Val). ‵ (fat fullShare half l₁₉ 0 v)) (values-at (c .len) i) refl $
+          -- the due slot
+          assigns ! (bin ! (loads ! (from ! (stop !)) (look ! 5 refl)) (lit ! tt) wide) (from ! (stop !))
+          (init ! 20 refl (tt, wide)) $
+          assigns ! (addr ! (from ! (fld ! refl (stop !)))) (from ! (stop !)) (init ! 21 refl (tt, tt)) $
+          assigns ! (bin ! (loads ! (from ! (stop !)) (look ! 21 refl)) (loads ! (from ! (stop !)) (look ! 20 refl)) tt)
+          (from ! (stop !)) (init ! 22 refl (tt, tt)) $
+          rewrite ! 22 (λ (o′ : ℕ). ‵ (fat fullShare tyPtr l₂₂ 0 (vptr l₄ o′))) (sym (place-is 2 3072 i)) refl $
+          assigns ! (of-opd ! (loads ! (from ! (hop ! (look ! 22 refl) (stop !)))
+          (look-in ! 4 (elem ! (values (c .due)) i (vint w16 0) (long-due) (omega (arith, long-due))
+          (sub ! 3 refl (whole !)))))) (from ! (stop !))
+          (init ! 23 refl (typed-at (c .due) i (typed .1 .1 .1 .1 .0))) $
+          rewrite ! 23 (λ (v : Val). ‵ (fat fullShare half l₂₃ 0 v)) (values-at (c .due) i) refl $
           -- the row
           assigns ! (agg ! (and-then ! (loads ! (from ! (stop !)) (look ! 11 refl))
           (and-then ! (loads ! (from ! (stop !)) (look ! 15 refl))
-          (and-then ! (loads ! (from ! (stop !)) (look ! 19 refl)) (no-more !))))) (from ! (stop !))
+          (and-then ! (loads ! (from ! (stop !)) (look ! 19 refl))
+          (and-then ! (loads ! (from ! (stop !)) (look ! 23 refl)) (no-more !)))))) (from ! (stop !))
           (init ! 6 refl typed) $
           assigns ! (bin ! (loads ! (from ! (stop !)) (look ! 5 refl)) (lit ! tt) wider) (from ! (stop !))
           (store ! 8 refl (tt, wider)) $
           assigns ! (bin ! (loads ! (from ! (fld ! refl (stop !))) (look-in ! 1 (sub ! 0 refl (whole !))))
-          (loads ! (from ! (stop !)) (look ! 8 refl)) tt) (from ! (stop !)) (init ! 20 refl (tt, tt)) $
-          rewrite ! 20 (λ (x : ℕ). ‵ (fat fullShare tyPtr l₂₀ 0 (vptr b x))) (sym (place-is 6 o i)) refl $
-          move ! (21 ∷ 22 ∷ 23 ∷ []) $ opens-slice ! tt R (zs i) b o $
+          (loads ! (from ! (stop !)) (look ! 8 refl)) tt) (from ! (stop !)) (init ! 24 refl (tt, tt)) $
+          rewrite ! 24 (λ (x : ℕ). ‵ (fat fullShare tyPtr l₂₄ 0 (vptr b x))) (sym (place-is 8 o i)) refl $
+          move ! (25 ∷ 26 ∷ 27 ∷ []) $ opens-slice ! tt R (zs i) b o $
           elem-out ! R (Is R) (shows 𝓤 H A R) (LL.vals T.the-type T′.the-laws)
           (LL.tells T.the-type T′.the-laws) fullShare (zs i) i (rowOf c i) b o within (λ _.
           -- [rows[i]; what it owns; the others; the open borrow; obs; auth; local j at j + 6; …]
-          assigns ! (of-opd ! (loads ! (from ! (stop !)) (look ! 12 refl))) (from ! (hop ! (look ! 26 refl) (stop !)))
+          assigns ! (of-opd ! (loads ! (from ! (stop !)) (look ! 12 refl))) (from ! (hop ! (look ! 30 refl) (stop !)))
           (store-raw ! 0 refl typed) $
           move ! (1 ∷ []) $ drop ! $ owned ! R (Is R) (LL.makes T.the-type T′.the-plain 𝓤 H A) (rowOf c i) _
           (row-stored c i p) $ move ! (1 ∷ 0 ∷ [])
@@ -306,9 +329,9 @@ module _ {M : Type 1} (𝓤 : URA M) (H : Heap 𝓤) (A : Atoms 𝓤) (W : Given
           forget ! 9 refl $ forget ! 10 refl $ forget ! 11 refl $ forget ! 12 refl $ forget ! 13 refl $ forget ! 14 refl
           $ forget ! 15 refl $ forget ! 16 refl $ forget ! 17 refl $
           forget ! 18 refl $ forget ! 19 refl $ forget ! 20 refl $ forget ! 21 refl $ forget ! 22 refl
-          $ forget ! 23 refl $
+          $ forget ! 23 refl $ forget ! 24 refl $ forget ! 25 refl $ forget ! 26 refl $ forget ! 27 refl $
           rewrite ! 8 (λ (j : ℕ). ‵ (fat fullShare word l₅ 0 (vint w64 j))) (add-one i) refl $
-          keep ! (3 ∷ 4 ∷ 5 ∷ 6 ∷ 7 ∷ 8 ∷ 9 ∷ 10 ∷ 11 ∷ 12 ∷ 13 ∷ 14 ∷ 15 ∷ 16 ∷ 17 ∷ 18 ∷ 19 ∷ 20 ∷ 21 ∷ 22 ∷ 23 ∷ 0 ∷ 1 ∷ 2 ∷ 24 ∷ 25 ∷ 26 ∷ 27 ∷ 28 ∷ 29 ∷ 30 ∷ 31 ∷ 32 ∷ 33 ∷ 34 ∷ 35 ∷ 36 ∷ 37 ∷ 38 ∷ 39 ∷ 40 ∷ 41 ∷ 42 ∷ 43 ∷ 44 ∷ []) $ by ! h)
+          keep ! (3 ∷ 4 ∷ 5 ∷ 6 ∷ 7 ∷ 8 ∷ 9 ∷ 10 ∷ 11 ∷ 12 ∷ 13 ∷ 14 ∷ 15 ∷ 16 ∷ 17 ∷ 18 ∷ 19 ∷ 20 ∷ 21 ∷ 22 ∷ 23 ∷ 24 ∷ 25 ∷ 26 ∷ 27 ∷ 0 ∷ 1 ∷ 2 ∷ 28 ∷ 29 ∷ 30 ∷ 31 ∷ 32 ∷ 33 ∷ 34 ∷ 35 ∷ 36 ∷ 37 ∷ 38 ∷ 39 ∷ 40 ∷ 41 ∷ 42 ∷ 43 ∷ 44 ∷ 45 ∷ 46 ∷ 47 ∷ 48 ∷ 49 ∷ 50 ∷ 51 ∷ 52 ∷ []) $ by ! h)
         where
           typed : Holds (hasTy T′.mir (T′.lowered (rowOf c i))) × WT (T′.lowered (rowOf c i))
           typed = LL.lawful T.the-type T′.the-laws 𝓤 H A W .typed (rowOf c i) _ (row-stored c i p) .0
@@ -325,8 +348,8 @@ module _ {M : Type 1} (𝓤 : URA M) (H : Heap 𝓤) (A : Atoms 𝓤) (W : Given
           wide : Fits w64 (i * 2)
           wide = scaled-fits i 512 2 (omega arith) (lit< tt)
 
-          wider : Fits w64 (i * 6)
-          wider = scaled-fits i (length ys) 6 (omega arith) (g .1)
+          wider : Fits w64 (i * 8)
+          wider = scaled-fits i (length ys) 8 (omega arith) (g .1)
 
       -- the turn that leaves the loop, and the rest of the body
       ends : (X : SProp 𝓤) → ent 𝓤 (⋆ 𝓤 H A (At k)) (Wp 𝓤 H C Λ En turn (afterTurn 𝓤 H X Left))
@@ -340,6 +363,8 @@ module _ {M : Type 1} (𝓤 : URA M) (H : Heap 𝓤) (A : Atoms 𝓤) (W : Given
           assigns ! (of-opd ! (unit-lit !)) (from ! (stop !)) (init ! 0 refl (tt, tt)) $
           returns ! (look ! 0 refl) $ forget ! 0 refl $ forget ! 1 refl $ forget ! 2 refl $ forget ! 3 refl
           $ forget ! 4 refl $ forget ! 5 refl $ forget ! 7 refl $
+          move ! (0 ∷ 28 ∷ []) $ free1 ! $ move ! (0 ∷ 27 ∷ []) $ free1 ! $ move ! (0 ∷ 26 ∷ []) $ free1 !
+          $ move ! (0 ∷ 25 ∷ []) $ free1 ! $
           move ! (0 ∷ 24 ∷ []) $ free1 ! $ move ! (0 ∷ 23 ∷ []) $ free1 ! $ move ! (0 ∷ 22 ∷ []) $ free1 !
           $ move ! (0 ∷ 21 ∷ []) $ free1 ! $ move ! (0 ∷ 20 ∷ []) $ free1 ! $
           move ! (0 ∷ 19 ∷ []) $ free1 ! $ move ! (0 ∷ 18 ∷ []) $ free1 ! $ move ! (0 ∷ 17 ∷ []) $ free1 !
@@ -389,21 +414,23 @@ module _ {M : Type 1} (𝓤 : URA M) (H : Heap 𝓤) (A : Atoms 𝓤) (W : Given
         alloc1 ! (λ l₁₀. alloc1 ! (λ l₁₁. alloc1 ! (λ l₁₂. alloc1 !
         (λ l₁₃. alloc1 ! (λ l₁₄. alloc1 ! (λ l₁₅. alloc1 !
         (λ l₁₆. alloc1 ! (λ l₁₇. alloc1 ! (λ l₁₈. alloc1 ! (λ l₁₉.
-        alloc1 ! (λ l₂₀. alloc0 ! $ params1 ! $
-        -- local j stands at 40 - 2 j
-        pass1 ! (init ! 38 refl (tt, (tt, (record { fits = g .0 }, tt))))
-        $ pass1 ! (init ! 36 refl (LL.lawful B.the-type B′.the-laws 𝓤 H A W .typed c _ p .0))
-        $ pass1 ! (init ! 34 refl (tt, record { fits = fits })) $ pass0 ! $
-        assigns ! (of-opd ! (loads ! (from ! (stop !)) (look ! 36 refl))) (from ! (stop !))
-        (init ! 32 refl (LL.lawful B.the-type B′.the-laws 𝓤 H A W .typed c _ p .0)) $
-        assigns ! (of-opd ! (lit ! tt)) (from ! (stop !)) (init ! 30 refl (tt, record { fits = lit< tt })) $
-        move ! (43 ∷ []) $ fsplit ! $ fsplit ! $ move ! (1 ∷ []) $ fsplit ! $ move ! (46 ∷ []) $ split !
+        alloc1 ! (λ l₂₀. alloc1 ! (λ l₂₁. alloc1 ! (λ l₂₂. alloc1 !
+        (λ l₂₃. alloc1 ! (λ l₂₄. alloc0 ! $ params1 ! $
+        -- local j stands at 48 - 2 j
+        pass1 ! (init ! 46 refl (tt, (tt, (record { fits = g .0 }, tt))))
+        $ pass1 ! (init ! 44 refl (LL.lawful B.the-type B′.the-laws 𝓤 H A W .typed c _ p .0))
+        $ pass1 ! (init ! 42 refl (tt, record { fits = fits })) $ pass0 ! $
+        assigns ! (of-opd ! (loads ! (from ! (stop !)) (look ! 44 refl))) (from ! (stop !))
+        (init ! 40 refl (LL.lawful B.the-type B′.the-laws 𝓤 H A W .typed c _ p .0)) $
+        assigns ! (of-opd ! (lit ! tt)) (from ! (stop !)) (init ! 38 refl (tt, record { fits = lit< tt })) $
+        move ! (51 ∷ []) $ fsplit ! $ fsplit ! $ move ! (1 ∷ []) $ fsplit ! $ move ! (54 ∷ []) $ split !
         $ move ! (2 ∷ 3 ∷ 0 ∷ []) $
-        -- [obs; the borrow; the token; …; local j at 46 - 2 j]
+        -- [obs; the borrow; the token; …; local j at 54 - 2 j]
         rewrite ! 0 (λ (l : List Row). ‵ (fobs γ (codedHoleys R .code (heres R l)))) (front-none c ys) refl $
         rewrite ! 1 (λ (l : List Row). ‵ (fbor κ (Held R (length l) b o γ))) (front-none c ys) refl $
-        keep ! (46 ∷ 44 ∷ 42 ∷ 40 ∷ 38 ∷ 36 ∷ 34 ∷ 32 ∷ 30 ∷ 28 ∷ 26 ∷ 24 ∷ 22 ∷ 20 ∷ 18 ∷ 16 ∷ 14 ∷ 12 ∷ 10 ∷ 8 ∷ 6 ∷ 0 ∷ 1 ∷ 2 ∷ 47 ∷ 45 ∷ 43 ∷ 41 ∷ 39 ∷ 37 ∷ 35 ∷ 33 ∷ 31 ∷ 29 ∷ 27 ∷ 25 ∷ 23 ∷ 21 ∷ 19 ∷ 17 ∷ 15 ∷ 13 ∷ 11 ∷ 9 ∷ 7 ∷ []) $
-        start l₀ l₁ l₂ l₃ l₄ l₅ l₆ l₇ l₈ l₉ l₁₀ l₁₁ l₁₂ l₁₃ l₁₄ l₁₅ l₁₆ l₁₇ l₁₈ l₁₉ l₂₀)))))))))))))))))))))
+        keep ! (54 ∷ 52 ∷ 50 ∷ 48 ∷ 46 ∷ 44 ∷ 42 ∷ 40 ∷ 38 ∷ 36 ∷ 34 ∷ 32 ∷ 30 ∷ 28 ∷ 26 ∷ 24 ∷ 22 ∷ 20 ∷ 18 ∷ 16 ∷ 14 ∷ 12 ∷ 10 ∷ 8 ∷ 6 ∷ 0 ∷ 1 ∷ 2 ∷ 55 ∷ 53 ∷ 51 ∷ 49 ∷ 47 ∷ 45 ∷ 43 ∷ 41 ∷ 39 ∷ 37 ∷ 35 ∷ 33 ∷ 31 ∷ 29 ∷ 27 ∷ 25 ∷ 23 ∷ 21 ∷ 19 ∷ 17 ∷ 15 ∷ 13 ∷ 11 ∷ 9 ∷ 7 ∷ []) $
+        start l₀ l₁ l₂ l₃ l₄ l₅ l₆ l₇ l₈ l₉ l₁₀ l₁₁ l₁₂ l₁₃ l₁₄ l₁₅
+        l₁₆ l₁₇ l₁₈ l₁₉ l₂₀ l₂₁ l₂₂ l₂₃ l₂₄)))))))))))))))))))))))))
 
 module _ {M : Type 1} (𝓤 : URA M) (H : Heap 𝓤) (A : Atoms 𝓤) (W : Given 𝓤 H A) (mem : Memory → SProp 𝓤)
     (run : Routine → Fun 𝓤) (𝓣 : Tables 𝓤 H) where

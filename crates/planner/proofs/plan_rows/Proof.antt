@@ -1,4 +1,4 @@
--- `planner::plan_rows` meets its contract: the rows are judged first, and planned where they are good.
+-- `planner::plan_rows` meets its contract: the rows and their cells are judged first, and planned where they are good.
 -- Assumes nothing.
 use mathlib.Core.Path.{_∙_, sym}
 use Rattle.planner.proofs.Judged.{first-bad, none-bad}
@@ -6,8 +6,12 @@ use borrow.Author.Needs.{needs}
 use Rattle.planner.proofs.plan_rows.Statement.{statement}
 use Rattle.planner.proofs.plan_rows.Tie as tie
 
-judge-rows-requires : tie.Need-judge-rows-requires
-judge-rows-requires c κs = search needs
+-- The place where the function begins, from where the rows are judged.
+abbrev begun-at : tie.After-judge-all → tie.Start
+begun-at c = c .before .before .before .before .before .before .before
+
+judge-all-requires : tie.Need-judge-all-requires
+judge-all-requires c κs = search needs
 
 enum-known-verdict : tie.Need-enum-known-verdict
 enum-known-verdict c = search needs
@@ -16,15 +20,14 @@ enum-told : tie.Need-enum-told
 enum-told c = search needs
 
 plan-good-requires : tie.Need-plan-good-requires
-plan-good-requires c κs = (
-  c .before .before .before .before .before .before .before .before .before .before .pre,
-  sym (c .before .before .before .before .judge-rows .ensures) ∙ c .before .before .enum-told .given .1,
-)
+plan-good-requires c κs =
+    let judged = c .before .before .before .before in
+    (begun-at judged .pre, sym (judged .judge-all .ensures) ∙ c .before .before .enum-told .given .1)
 
 returns : tie.Need-returns
 returns c =
-    first-bad (c .before .before .before .before .before .before .before .before .before .pre)
-    (c .before .before .before .judge-rows .ensures) (c .before .verdict .given .1)
+    let judged = c .before .before .before in
+    first-bad (begun-at judged .pre) (judged .judge-all .ensures) (c .before .verdict .given .1)
 
 same-length : tie.Need-same-length
 same-length c = search needs
@@ -34,9 +37,8 @@ same-length-2 c = search needs
 
 returns-2 : tie.Need-returns-2
 returns-2 c =
-    let back10 = c .before .before .before .before .before .before .before .before .before .before in
-    let s = back10 .before .before .before .before .before in
-    none-bad (s .pre) (c .before .before .before .before .before .before .before .before .before .judge-rows .ensures)
+    let judged = c .before .before .before .before .before .before .before .before .before in
+    none-bad (begun-at judged .pre) (judged .judge-all .ensures)
     (c .before .before .before .before .before .before .before .enum-told .given .1)
     (c .before .before .before .before .plan-good .ensures)
 
@@ -44,7 +46,7 @@ pub plan-rows-spec : {M : Type 1} → statement M
 plan-rows-spec =
     tie.close
     (tie.spec
-    judge-rows-requires
+    judge-all-requires
     enum-known-verdict
     enum-told
     plan-good-requires

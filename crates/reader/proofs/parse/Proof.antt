@@ -14,6 +14,9 @@ zeros-requires-2 c κs = search needs
 zeros-requires-3 : tie.Need-zeros-requires-3
 zeros-requires-3 c κs = search needs
 
+zeros-requires-4 : tie.Need-zeros-requires-4
+zeros-requires-4 c κs = search needs
+
 read-columns-requires : tie.Need-read-columns-requires
 read-columns-requires c κs = search needs
 
@@ -40,6 +43,7 @@ parse-spec =
     zeros-requires
     zeros-requires-2
     zeros-requires-3
+    zeros-requires-4
     read-columns-requires
     rows-filled-requires
     blank-requires

@@ -30,7 +30,8 @@ returns c =
     let text = a .text .now in
     let lent = a .lent in
     let l = c .before .before .before .line-at in
-    refused-read text lent (a .src .now) (a .dst .now) (a .due .now) (c .refused .result) _ (c .refused .ensures)
+    refused-read text lent (a .src .now) (a .dst .now) (a .len .now) (a .due .now) (c .refused .result) _
+    (c .refused .ensures)
     (first-wrong text lent (not-seen nodes-key line-feed text 0 (l .result) (l .ensures)
     (c .before .enum-told .given .1)))
 
@@ -66,7 +67,8 @@ returns-2 c =
     let one = seen-item nodes-key line-feed text 0 (l .result) (l .ensures) (g .0 .0) (g .0 .1 .0) (omega arith)
     (g .1) in
     let l2 = c .before .before .before .line-at2 in
-    refused-read text lent (a .src .now) (a .dst .now) (a .due .now) (c .refused2 .result) _ (c .refused2 .ensures)
+    refused-read text lent (a .src .now) (a .dst .now) (a .len .now) (a .due .now) (c .refused2 .result) _
+    (c .refused2 .ensures)
     (second-wrong text lent (g .0 .0) (g .0 .1 .0) one
     (not-seen rows-key line-feed text (g .0 .1 .0) (l2 .result) (l2 .ensures) (c .before .enum-told2 .given .1)))
 
@@ -90,7 +92,8 @@ returns-3 c =
     let g2 = c .before .before .before .rows .given in
     let two = seen-item rows-key line-feed text (g .0 .1 .0) (l2 .result) (l2 .ensures) (g2 .0 .0) (g2 .0 .1 .0)
     (one .inside) (g2 .1) in
-    refused-read text lent (a .src .now) (a .dst .now) (a .due .now) (c .refused3 .result) _ (c .refused3 .ensures)
+    refused-read text lent (a .src .now) (a .dst .now) (a .len .now) (a .due .now) (c .refused3 .result) _
+    (c .refused3 .ensures)
     (too-many text lent (g .0 .0) (g .0 .1 .0) one (g2 .0 .0) (g2 .0 .1 .0) two (c .before .if1 .taken))
 
 refused-requires-4 : tie.Need-refused-requires-4
@@ -110,47 +113,49 @@ returns-4 c =
     let g2 = c .before .before .before .before .rows .given in
     let two = seen-item rows-key line-feed text (g .0 .1 .0) (l2 .result) (l2 .ensures) (g2 .0 .0) (g2 .0 .1 .0)
     (one .inside) (g2 .1) in
-    refused-read text lent (a .src .now) (a .dst .now) (a .due .now) (c .refused4 .result) _ (c .refused4 .ensures)
+    refused-read text lent (a .src .now) (a .dst .now) (a .len .now) (a .due .now) (c .refused4 .result) _
+    (c .refused4 .ensures)
     (too-short text lent (g .0 .0) (g .0 .1 .0) one (g2 .0 .0) (g2 .0 .1 .0) two (c .before .before .if1 .left)
     (c .before .if2 .taken))
 
 read-rows-requires : tie.Need-read-rows-requires
 read-rows-requires c κs =
-    let back10 = c .before .before .before .before .before .before .before .before .before .before in
-    let a = back10 .before .before .before .before .before .before .args in
+    let back11 = c .before .before .before .before .before .before .before .before .before .before .before in
+    let a = back11 .before .before .before .before .before .before .args in
     let text = a .text .now in
-    let l = back10 .before .before .before .line-at in
-    let g = back10 .before .nodes .given in
+    let l = back11 .before .before .before .line-at in
+    let g = back11 .before .nodes .given in
     let one = seen-item nodes-key line-feed text 0 (l .result) (l .ensures) (g .0 .0) (g .0 .1 .0) (omega arith)
     (g .1) in
-    let l2 = c .before .before .before .before .before .before .before .before .line-at2 in
-    let g2 = c .before .before .before .before .before .before .rows .given in
+    let l2 = c .before .before .before .before .before .before .before .before .before .line-at2 in
+    let g2 = c .before .before .before .before .before .before .before .rows .given in
     let two = seen-item rows-key line-feed text (g .0 .1 .0) (l2 .result) (l2 .ensures) (g2 .0 .0) (g2 .0 .1 .0)
     (one .inside) (g2 .1) in (
       two .inside,
-      c .before .before .before .before .if1 .left,
-      back10 .before .before .before .before .before .before .pre .0,
-      back10 .before .before .before .before .before .before .pre .1,
-      back10 .before .before .before .before .before .before .pre .2,
+      c .before .before .before .before .before .if1 .left,
+      back11 .before .before .before .before .before .before .pre .0,
+      back11 .before .before .before .before .before .before .pre .1,
+      back11 .before .before .before .before .before .before .pre .2,
+      back11 .before .before .before .before .before .before .pre .3,
     )
 
 returns-5 : tie.Need-returns-5
 returns-5 c =
-    let back10 = c .before .before .before .before .before .before .before .before .before .before in
-    let a = back10 .before .before .before .before .before .before .before .before .args in
+    let back11 = c .before .before .before .before .before .before .before .before .before .before .before in
+    let a = back11 .before .before .before .before .before .before .before .before .args in
     let text = a .text .now in
     let lent = a .lent in
-    let l = back10 .before .before .before .before .before .line-at in
-    let g = back10 .before .before .before .nodes .given in
+    let l = back11 .before .before .before .before .before .line-at in
+    let g = back11 .before .before .before .nodes .given in
     let one = seen-item nodes-key line-feed text 0 (l .result) (l .ensures) (g .0 .0) (g .0 .1 .0) (omega arith)
     (g .1) in
-    let l2 = back10 .line-at2 in
-    let g2 = c .before .before .before .before .before .before .before .before .rows .given in
+    let l2 = back11 .line-at2 in
+    let g2 = c .before .before .before .before .before .before .before .before .before .rows .given in
     let two = seen-item rows-key line-feed text (g .0 .1 .0) (l2 .result) (l2 .ensures) (g2 .0 .0) (g2 .0 .1 .0)
     (one .inside) (g2 .1) in
     all-read text lent (g .0 .0) (g .0 .1 .0) one (g2 .0 .0) (g2 .0 .1 .0) two
-    (c .before .before .before .before .before .before .if1 .left)
-    (c .before .before .before .before .before .if2 .left) (c .before .read-rows .result) _ _ _
+    (c .before .before .before .before .before .before .before .if1 .left)
+    (c .before .before .before .before .before .before .if2 .left) (c .before .read-rows .result) _ _ _ _
     (c .before .read-rows .ensures) (c .if3 .taken)
 
 refused-requires-5 : tie.Need-refused-requires-5
@@ -158,22 +163,23 @@ refused-requires-5 c κs = search needs
 
 returns-6 : tie.Need-returns-6
 returns-6 c =
-    let back10 = c .before .before .before .before .before .before .before .before .before .before in
-    let a = back10 .before .before .before .before .before .before .before .before .before .args in
+    let back11 = c .before .before .before .before .before .before .before .before .before .before .before in
+    let a = back11 .before .before .before .before .before .before .before .before .before .args in
     let text = a .text .now in
     let lent = a .lent in
-    let l = back10 .before .before .before .before .before .before .line-at in
-    let g = back10 .before .before .before .before .nodes .given in
+    let l = back11 .before .before .before .before .before .before .line-at in
+    let g = back11 .before .before .before .before .nodes .given in
     let one = seen-item nodes-key line-feed text 0 (l .result) (l .ensures) (g .0 .0) (g .0 .1 .0) (omega arith)
     (g .1) in
-    let l2 = back10 .before .line-at2 in
-    let g2 = c .before .before .before .before .before .before .before .before .before .rows .given in
+    let l2 = back11 .before .line-at2 in
+    let g2 = c .before .before .before .before .before .before .before .before .before .before .rows .given in
     let two = seen-item rows-key line-feed text (g .0 .1 .0) (l2 .result) (l2 .ensures) (g2 .0 .0) (g2 .0 .1 .0)
     (one .inside) (g2 .1) in
-    refused-read text lent _ _ _ (c .refused5 .result) _ (c .refused5 .ensures)
+    refused-read text lent _ _ _ _ (c .refused5 .result) _ (c .refused5 .ensures)
     (line-wrong text lent (g .0 .0) (g .0 .1 .0) one (g2 .0 .0) (g2 .0 .1 .0) two
-    (c .before .before .before .before .before .before .before .if1 .left)
-    (c .before .before .before .before .before .before .if2 .left) (c .before .before .read-rows .result) _ _ _
+    (c .before .before .before .before .before .before .before .before .if1 .left)
+    (c .before .before .before .before .before .before .before .if2 .left)
+    (c .before .before .read-rows .result) _ _ _ _
     (c .before .before .read-rows .ensures) (c .before .if3 .left))
 
 pub read-columns-spec : {M : Type 1} → statement M

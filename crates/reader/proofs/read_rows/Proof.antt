@@ -11,17 +11,18 @@ use Rattle.reader.proofs.read_rows.Statement.{statement}
 use Rattle.reader.proofs.read_rows.Tie as tie
 
 abbrev Inv-loop : tie.InvT-loop
-Inv-loop text from rows src₀ dst₀ due₀ at₀ line₀ i₀ src dst due at line i = Loaded text from rows src dst due at line i
+Inv-loop text from rows src₀ dst₀ len₀ due₀ at₀ line₀ i₀ src dst len due at line i =
+    Loaded text from rows src dst len due at line i
 
 abbrev μ-loop : tie.MeasureT-loop
-μ-loop text from rows src₀ dst₀ due₀ at₀ line₀ i₀ src dst due at line i = rows - i
+μ-loop text from rows src₀ dst₀ len₀ due₀ at₀ line₀ i₀ src dst len due at line i = rows - i
 
 loop-holds : tie.Need-loop-holds Inv-loop μ-loop
 loop-holds c =
     let a = c .before .args in
     let zeros = c .before .pre in
-    none-loaded (a .text .now) (a .from) (a .rows) (a .src .now) (a .dst .now) (a .due .now) (zeros .0) (zeros .2)
-    (zeros .3) (zeros .4)
+    none-loaded (a .text .now) (a .from) (a .rows) (a .src .now) (a .dst .now) (a .len .now) (a .due .now)
+    (zeros .0) (zeros .2) (zeros .3) (zeros .4) (zeros .5)
 
 row-at-requires : tie.Need-row-at-requires Inv-loop μ-loop
 row-at-requires c κs = search needs
@@ -61,6 +62,12 @@ mul-dst c = search needs
 
 element-write-dst : tie.Need-element-write-dst Inv-loop μ-loop
 element-write-dst c = search needs
+
+mul-len : tie.Need-mul-len Inv-loop μ-loop
+mul-len c = search needs
+
+element-write-len : tie.Need-element-write-len Inv-loop μ-loop
+element-write-len c = search needs
 
 mul-due : tie.Need-mul-due Inv-loop μ-loop
 mul-due c = search needs
@@ -113,6 +120,8 @@ read-rows-spec =
     element-write-src
     mul-dst
     element-write-dst
+    mul-len
+    element-write-len
     mul-due
     element-write-due
     cast-line

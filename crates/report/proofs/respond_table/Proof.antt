@@ -25,6 +25,7 @@ answered c =
       out = c .plan-columns .ensures;
       src-all = search (needs, s .good);
       dst-all = search (needs, s .good);
+      len-all = search (needs, s .good);
       due-all = search (needs, s .good);
     }
 

@@ -10,7 +10,7 @@ use Rattle.run.proofs.run.Tie as tie
 
 -- The place where the function begins, from where the figures are to be written.
 abbrev begun-at : tie.After-no-figures → tie.Start
-begun-at c = c .before .before .before .before .before .before
+begun-at c = c .before .before .before .before .before .before .before
 
 -- The room for figures has a front for those of the rows.
 room : (c : tie.After-no-figures) →
@@ -18,7 +18,7 @@ room : (c : tie.After-no-figures) →
     rows ≡ length (take rows (c .no-figures .result))
 room c =
     let s = begun-at c in
-    front-long 512 (length (s .args .left .now)) (pos 0) (c .no-figures .result) (c .no-figures .ensures) (s .pre .1)
+    front-long 1024 (length (s .args .left .now)) (pos 0) (c .no-figures .result) (c .no-figures .ensures) (s .pre .1)
 
 -- The figures of the rows were written in that front.
 written : (c : tie.After-write-figures) →

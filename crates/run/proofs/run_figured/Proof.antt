@@ -5,7 +5,7 @@ use Prim.Native.Nat.{_*_, _<_, _^_}
 use native.Mathlib.Omega.{arith}
 use borrow.Author.Needs.{needs}
 use Rattle.slack.specs.Slack.{traffic}
-use Rattle.run.proofs.Running.{cleared-ready, Over, inside, inside-lent, accepted, refused}
+use Rattle.run.proofs.Running.{cleared-ready, Over, inside, inside-lent, known-cell, accepted, refused}
 use Rattle.run.proofs.run_figured.Statement.{statement}
 use Rattle.run.proofs.run_figured.Tie as tie
 
@@ -14,20 +14,20 @@ abbrev cleared-at : tie.After-walk → tie.After-clear
 cleared-at c = c .before .before .before .before .before .before .before
 
 abbrev begun-at : tie.After-walk → tie.Start
-begun-at c = cleared-at c .before .before .before .before .before .before .before
+begun-at c = cleared-at c .before .before .before .before .before .before .before .before
 
 -- The place where the walk has been left, from where the area behind it is to be cleared.
 abbrev left-at : tie.After-struct-known2 → tie.After-walk
-left-at c = c .before .before .before .before .before .before .before .before .before .before
+left-at c = c .before .before .before .before .before .before .before .before .before .before .before
 
 -- The walk has been left.
 left-off : (c : tie.After-walk) →
     let a = begun-at c .args in
-    let left = c .walk .last .1 .1 .1 in
-    Over (traffic (a .nodes) (a .dst .now) (a .due .now)) (a .left .now) (a .plan .now) (c .walk .result)
-    (left .0) (left .1 .1 .0) (left .1 .1 .1 .0)
+    let left = c .walk .last .1 .1 .1 .1 in
+    Over (traffic (a .nodes) (a .dst .now) (a .due .now)) (a .owner .now) (a .left .now) (a .plan .now)
+    (c .walk .result) (left .0) (left .1 .1 .0) (left .1 .1 .1 .0)
 left-off c =
-    let kept = c .walk .kept .1 .1 .1 .1 .1 in
+    let kept = c .walk .kept .1 .1 .1 .1 .1 .1 in
     record {
       lent = _;
       arrivals₀ = _;
@@ -48,8 +48,12 @@ clear-requires c κs = search needs
 
 walk-requires : tie.Need-walk-requires
 walk-requires c κs =
-    let s = c .before .before .before .before .before .before .before .before .before .before .before .before .before in
-    (cleared-ready (s .pre .0) (c .before .before .before .before .before .before .clear .ensures), s .pre .1)
+    let cleared = c .before .before .before .before .before .before in
+    let s = cleared .before .before .before .before .before .before .before .before in
+    (cleared-ready (s .pre .0) (cleared .clear .ensures), s .pre .1)
+
+end-in-rows-requires : tie.Need-end-in-rows-requires
+end-in-rows-requires c κs = known-cell (left-off (c .before .before .before .before .before .before .before))
 
 cast-idle : tie.Need-cast-idle
 cast-idle c = search needs
@@ -93,7 +97,9 @@ same-length-4 c = search needs
 returns : tie.Need-returns
 returns c =
     let cleared = c .before .before in
+    let told = cleared .before .before .before .before .before in
     accepted (left-off (left-at (cleared .before .before))) (omega arith) _ (cleared .clear2 .ensures)
+    _ (told .end-in-rows .ensures)
 
 same-length-5 : tie.Need-same-length-5
 same-length-5 c = search needs
@@ -110,8 +116,10 @@ same-length-8 c = search needs
 returns-2 : tie.Need-returns-2
 returns-2 c =
     let plan = c .before .before .before .before .before .before in
-    let walked = plan .before .before .before .before .before .before .before .before .before .before .before in
-    refused (left-off walked) (omega arith) _ _ (plan .clear3 .ensures) (c .before .before .clear4 .ensures)
+    let told = plan .before .before .before .before in
+    let walked = left-off (told .before .before .before .before .before .before .before .before) in
+    refused walked (omega arith) _ _ (plan .clear3 .ensures) (c .before .before .clear4 .ensures)
+    _ (told .end-in-rows .ensures)
 
 pub run-figured-spec : {M : Type 1} → statement M
 run-figured-spec =
@@ -119,6 +127,7 @@ run-figured-spec =
     (tie.spec
     clear-requires
     walk-requires
+    end-in-rows-requires
     cast-idle
     mul-idle
     mul-clear

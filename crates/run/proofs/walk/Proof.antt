@@ -10,29 +10,30 @@ use Rattle.lists.specs.Lists.{largest}
 use Rattle.slack.specs.Slack.{traffic, isLate, underWay, slack}
 use Rattle.run.proofs.Walking.{Sought, seek, seek-on, found, not-found}
 use Rattle.run.proofs.Walking.{Going, begin, figures-kept, over, is-late, on-ring}
-use Rattle.run.proofs.Walking.{Planning, before-last, before-end, has-room, can-plan, again}
+use Rattle.run.proofs.Walking.{Planning, before-last, before-end, has-room, each-owned, can-plan, again}
 use Rattle.run.proofs.walk.Statement.{statement}
 use Rattle.run.proofs.walk.Tie as tie
 
 abbrev Inv-loop : tie.InvT-loop
-Inv-loop nodes dst due left figure plan arrivals t late₀ i₀ late i =
+Inv-loop nodes dst due owner left figure plan arrivals t late₀ i₀ late i =
     (i ≤ length left) × (late ≡ late₀) × Sought (traffic nodes dst due) t left i
 
 abbrev μ-loop : tie.MeasureT-loop
-μ-loop nodes dst due left figure plan arrivals t late₀ i₀ late i = length left - i
+μ-loop nodes dst due owner left figure plan arrivals t late₀ i₀ late i = length left - i
 
 abbrev Inv-instants : tie.InvT-instants
-Inv-instants nodes dst due left₀ figure₀ plan₀ arrivals₀ t₀ late₀ left figure plan arrivals t late =
-    Going (traffic nodes dst due) left₀ plan₀ arrivals₀ t late left figure plan arrivals
+Inv-instants nodes dst due owner left₀ figure₀ plan₀ arrivals₀ t₀ late₀ left figure plan arrivals t late =
+    Going (traffic nodes dst due) owner left₀ plan₀ arrivals₀ t late left figure plan arrivals
 
 abbrev μ-instants : tie.MeasureT-instants
-μ-instants nodes dst due left₀ figure₀ plan₀ arrivals₀ t₀ late₀ left figure plan arrivals t late = largest due - t
+μ-instants nodes dst due owner left₀ figure₀ plan₀ arrivals₀ t₀ late₀ left figure plan arrivals t late = largest due - t
 
 -- All rows were looked at and none is late: the slot is to be planned.
 planning : (c : tie.After-loop Inv-loop μ-loop Inv-instants μ-instants) →
-    let a = c .before .before .before .before .before .before .before .before .before .before .before .args in
+    let a = c .before .before .before .before .before .before .before .before .before .before .before .before .args in
     let o = c .before .before .before .before .before .instants in
-    Planning (traffic (a .nodes) (a .dst .now) (a .due .now)) (a .left .now) (a .plan .now) (a .arrivals .now)
+    Planning (traffic (a .nodes) (a .dst .now) (a .due .now))
+    (a .owner .now) (a .left .now) (a .plan .now) (a .arrivals .now)
     (o .t) (o .late) (o .left) (o .figure) (o .plan) (o .arrivals)
 planning c =
     let o = c .before .before .before .before .before .instants in
@@ -44,7 +45,7 @@ planning c =
     }
 
 instants-holds : tie.Need-instants-holds Inv-loop μ-loop Inv-instants μ-instants
-instants-holds c = let s = c .before .before .before .before .before in begin (s .pre .0) (s .pre .1)
+instants-holds c = let s = c .before .before .before .before .before .before in begin (s .pre .0) (s .pre .1)
 
 any-under-way-requires : tie.Need-any-under-way-requires Inv-loop μ-loop Inv-instants μ-instants
 any-under-way-requires c κs = tt
@@ -54,19 +55,19 @@ loop-holds c =
     let o = c .before .before .before .instants in
     (omega arith, refl, seek _ (o .t) (o .left))
 
-mul-t16 : tie.Need-mul-t16 Inv-loop μ-loop Inv-instants μ-instants
-mul-t16 c = omega arith
+mul-t17 : tie.Need-mul-t17 Inv-loop μ-loop Inv-instants μ-instants
+mul-t17 c = omega arith
 
-shared-slice-read-t20 : tie.Need-shared-slice-read-t20 Inv-loop μ-loop Inv-instants μ-instants
-shared-slice-read-t20 c =
+shared-slice-read-t21 : tie.Need-shared-slice-read-t21 Inv-loop μ-loop Inv-instants μ-instants
+shared-slice-read-t21 c =
     let g = c .before .before .before .before .before .before .instants .inv in
     omega (arith, g .ready .ring .due-each, g .left-long)
 
-mul-t23 : tie.Need-mul-t23 Inv-loop μ-loop Inv-instants μ-instants
-mul-t23 c = omega arith
+mul-t24 : tie.Need-mul-t24 Inv-loop μ-loop Inv-instants μ-instants
+mul-t24 c = omega arith
 
-slice-read-t25 : tie.Need-slice-read-t25 Inv-loop μ-loop Inv-instants μ-instants
-slice-read-t25 c = omega arith
+slice-read-t26 : tie.Need-slice-read-t26 Inv-loop μ-loop Inv-instants μ-instants
+slice-read-t26 c = omega arith
 
 is-late-requires : tie.Need-is-late-requires Inv-loop μ-loop Inv-instants μ-instants
 is-late-requires c κs = tt
@@ -102,20 +103,22 @@ mul-first c = omega (arith, has-room (planning c))
 add-next : tie.Need-add-next Inv-loop μ-loop Inv-instants μ-instants
 add-next c = omega (arith, has-room (planning c))
 
-mul-plan-slot : tie.Need-mul-plan-slot Inv-loop μ-loop Inv-instants μ-instants
-mul-plan-slot c = omega (arith, has-room (planning (c .before .before)))
+mul-plan-slot-in-rows : tie.Need-mul-plan-slot-in-rows Inv-loop μ-loop Inv-instants μ-instants
+mul-plan-slot-in-rows c = omega (arith, has-room (planning (c .before .before)))
 
-sub-plan-slot : tie.Need-sub-plan-slot Inv-loop μ-loop Inv-instants μ-instants
-sub-plan-slot c = omega (arith, has-room (planning (c .before .before)))
+sub-plan-slot-in-rows : tie.Need-sub-plan-slot-in-rows Inv-loop μ-loop Inv-instants μ-instants
+sub-plan-slot-in-rows c = omega (arith, has-room (planning (c .before .before)))
 
-part-plan-slot-start : tie.Need-part-plan-slot-start Inv-loop μ-loop Inv-instants μ-instants
-part-plan-slot-start c = omega arith
+part-plan-slot-in-rows-start : tie.Need-part-plan-slot-in-rows-start Inv-loop μ-loop Inv-instants μ-instants
+part-plan-slot-in-rows-start c = omega arith
 
-part-plan-slot-end : tie.Need-part-plan-slot-end Inv-loop μ-loop Inv-instants μ-instants
-part-plan-slot-end c = has-room (planning (c .before .before))
+part-plan-slot-in-rows-end : tie.Need-part-plan-slot-in-rows-end Inv-loop μ-loop Inv-instants μ-instants
+part-plan-slot-in-rows-end c = has-room (planning (c .before .before))
 
-plan-slot-requires : tie.Need-plan-slot-requires Inv-loop μ-loop Inv-instants μ-instants
-plan-slot-requires c κs = can-plan (planning (c .before .before .before .before))
+plan-slot-in-rows-requires : tie.Need-plan-slot-in-rows-requires Inv-loop μ-loop Inv-instants μ-instants
+plan-slot-in-rows-requires c κs =
+    let k = planning (c .before .before .before .before) in
+    (can-plan k, each-owned k)
 
 add-t : tie.Need-add-t Inv-loop μ-loop Inv-instants μ-instants
 add-t c =
@@ -134,7 +137,8 @@ instants-again c =
     let sent = c .before .before .before .before .before .before .before in
     let here = sent .before .before .before .before .before in
     let k = planning here in
-    again k (here .before .loop .inv .1) (sent .plan-slot .ensures _ (on-ring (k .going)) (k .going .figured))
+    let (cells, told, planned) = sent .plan-slot-in-rows .ensures in
+    again k (here .before .loop .inv .1) told (planned _ (on-ring (k .going)) (k .going .figured))
 
 same-length : tie.Need-same-length Inv-loop μ-loop Inv-instants μ-instants
 same-length c = c .before .before .before .instants .inv .left-long
@@ -142,7 +146,7 @@ same-length c = c .before .before .before .instants .inv .left-long
 same-length-2 : tie.Need-same-length-2 Inv-loop μ-loop Inv-instants μ-instants
 same-length-2 c =
     let i = c .before .before .before in
-    figures-kept (i .instants .inv) (i .before .before .before .before .before .before .pre .1)
+    figures-kept (i .instants .inv) (i .before .before .before .before .before .before .before .pre .1)
 
 same-length-3 : tie.Need-same-length-3 Inv-loop μ-loop Inv-instants μ-instants
 same-length-3 c = c .before .before .before .instants .inv .plan-long
@@ -159,7 +163,7 @@ same-length-5 c = c .before .before .before .before .before .before .before .bef
 same-length-6 : tie.Need-same-length-6 Inv-loop μ-loop Inv-instants μ-instants
 same-length-6 c =
     let i = c .before .before .before .before .before .before .before .before .before in
-    figures-kept (i .instants .inv) (i .before .before .before .before .before .before .pre .1)
+    figures-kept (i .instants .inv) (i .before .before .before .before .before .before .before .pre .1)
 
 same-length-7 : tie.Need-same-length-7 Inv-loop μ-loop Inv-instants μ-instants
 same-length-7 c = c .before .before .before .before .before .before .before .before .before .instants .inv .plan-long
@@ -187,10 +191,10 @@ walk-spec =
     instants-holds
     any-under-way-requires
     loop-holds
-    mul-t16
-    shared-slice-read-t20
-    mul-t23
-    slice-read-t25
+    mul-t17
+    shared-slice-read-t21
+    mul-t24
+    slice-read-t26
     is-late-requires
     add-late
     cast-late
@@ -200,11 +204,11 @@ walk-spec =
     cast-first
     mul-first
     add-next
-    mul-plan-slot
-    sub-plan-slot
-    part-plan-slot-start
-    part-plan-slot-end
-    plan-slot-requires
+    mul-plan-slot-in-rows
+    sub-plan-slot-in-rows
+    part-plan-slot-in-rows-start
+    part-plan-slot-in-rows-end
+    plan-slot-in-rows-requires
     add-t
     instants-less
     instants-again

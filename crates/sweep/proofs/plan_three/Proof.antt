@@ -100,7 +100,7 @@ stayed = (
 
 -- up to three rows have room
 few-room : (n : ℕ) → n ≤ 3 → Room R n
-few-room n h = (lt-of-le-of-lt h (lit< tt), lt-of-le-of-lt (mul-le-mul-right 6 h) (lit< tt))
+few-room n h = (lt-of-le-of-lt h (lit< tt), lt-of-le-of-lt (mul-le-mul-right 8 h) (lit< tt))
 
 taken : (xs : List Row) (n : ℕ) → length xs ≡ 3 → n ≤ 3 → length (take n xs) ≡ n
 taken xs n l h = length-take-le n xs (omega (arith, l, h))

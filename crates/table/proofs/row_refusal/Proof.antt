@@ -13,7 +13,10 @@ returns c =
 returns-2 : tie.Need-returns-2
 unfolding rowRefusal
 returns-2 c =
-    simp (lt-leb _ _ (c .before .before .if1 .left), le-leb _ _ (c .if2 .taken))
+    simp (
+      lt-leb _ _ (c .before .before .if1 .left),
+      le-leb _ _ (c .if2 .taken),
+    )
 
 returns-3 : tie.Need-returns-3
 unfolding rowRefusal
@@ -49,12 +52,41 @@ returns-6 : tie.Need-returns-6
 unfolding rowRefusal
 returns-6 c =
     simp (
-      lt-leb _ _ (c .before .before .before .before .before .before .before .before .if1 .left),
-      lt-leb _ _ (c .before .before .before .before .before .before .if2 .left),
-      ne-eqb _ _ (c .before .before .before .before .if3 .left),
-      ne-eqb _ _ (c .before .before .if4 .left),
-      le-ltb _ _ (c .if5 .left),
+      lt-leb _ _ (c .before .before .before .before .before .before .before .before .before .before .if1 .left),
+      lt-leb _ _ (c .before .before .before .before .before .before .before .before .if2 .left),
+      ne-eqb _ _ (c .before .before .before .before .before .before .if3 .left),
+      ne-eqb _ _ (c .before .before .before .before .if4 .left),
+      le-ltb _ _ (c .before .before .if5 .left),
+      eq-eqb _ _ (c .if6 .taken),
+    )
+
+returns-7 : tie.Need-returns-7
+unfolding rowRefusal
+returns-7 c =
+    let back6 = c .before .before .before .before .before .before in
+    simp (
+      lt-leb _ _ (back6 .before .before .before .before .before .before .if1 .left),
+      lt-leb _ _ (back6 .before .before .before .before .if2 .left),
+      ne-eqb _ _ (back6 .before .before .if3 .left),
+      ne-eqb _ _ (back6 .if4 .left),
+      le-ltb _ _ (c .before .before .before .before .if5 .left),
+      ne-eqb _ _ (c .before .before .if6 .left),
+      lt-ltb _ _ (c .if7 .taken),
+    )
+
+returns-8 : tie.Need-returns-8
+unfolding rowRefusal
+returns-8 c =
+    let back6 = c .before .before .before .before .before .before in
+    simp (
+      lt-leb _ _ (back6 .before .before .before .before .before .before .if1 .left),
+      lt-leb _ _ (back6 .before .before .before .before .if2 .left),
+      ne-eqb _ _ (back6 .before .before .if3 .left),
+      ne-eqb _ _ (back6 .if4 .left),
+      le-ltb _ _ (c .before .before .before .before .if5 .left),
+      ne-eqb _ _ (c .before .before .if6 .left),
+      le-ltb _ _ (c .if7 .left),
     )
 
 pub row-refusal-spec : {M : Type 1} → statement M
-row-refusal-spec = tie.close (tie.spec returns returns-2 returns-3 returns-4 returns-5 returns-6)
+row-refusal-spec = tie.close (tie.spec returns returns-2 returns-3 returns-4 returns-5 returns-6 returns-7 returns-8)

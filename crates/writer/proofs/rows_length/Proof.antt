@@ -14,42 +14,48 @@ use Rattle.writer.proofs.rows_length.Statement.{statement}
 use Rattle.writer.proofs.rows_length.Tie as tie
 
 abbrev Inv-loop : tie.InvT-loop
-Inv-loop rows src dst due sum₀ i₀ sum i =
-    let all = listed rows (held src dst due) in
+Inv-loop rows src dst len due sum₀ i₀ sum i =
+    let all = listed rows (held src dst len due) in
     (i ≤ rows) × (sum + length (rowsText (drop i all)) ≡ length (rowsText all))
 
 abbrev μ-loop : tie.MeasureT-loop
-μ-loop rows src dst due sum₀ i₀ sum i = rows - i
+μ-loop rows src dst len due sum₀ i₀ sum i = rows - i
 
 loop-holds : tie.Need-loop-holds Inv-loop μ-loop
 loop-holds c = (omega arith, omega arith)
 
-mul-t9 : tie.Need-mul-t9 Inv-loop μ-loop
-mul-t9 c = search needs
+mul-t10 : tie.Need-mul-t10 Inv-loop μ-loop
+mul-t10 c = search needs
 
-element-copy-out-t12 : tie.Need-element-copy-out-t12 Inv-loop μ-loop
-element-copy-out-t12 c = search needs
+element-copy-out-t13 : tie.Need-element-copy-out-t13 Inv-loop μ-loop
+element-copy-out-t13 c = search needs
 
-mul-t13 : tie.Need-mul-t13 Inv-loop μ-loop
-mul-t13 c = search needs
+mul-t14 : tie.Need-mul-t14 Inv-loop μ-loop
+mul-t14 c = search needs
 
-element-copy-out-t16 : tie.Need-element-copy-out-t16 Inv-loop μ-loop
-element-copy-out-t16 c = search needs
+element-copy-out-t17 : tie.Need-element-copy-out-t17 Inv-loop μ-loop
+element-copy-out-t17 c = search needs
 
-mul-t17 : tie.Need-mul-t17 Inv-loop μ-loop
-mul-t17 c = search needs
+mul-t18 : tie.Need-mul-t18 Inv-loop μ-loop
+mul-t18 c = search needs
 
-element-copy-out-t20 : tie.Need-element-copy-out-t20 Inv-loop μ-loop
-element-copy-out-t20 c = search needs
+element-copy-out-t21 : tie.Need-element-copy-out-t21 Inv-loop μ-loop
+element-copy-out-t21 c = search needs
+
+mul-t22 : tie.Need-mul-t22 Inv-loop μ-loop
+mul-t22 c = search needs
+
+element-copy-out-t25 : tie.Need-element-copy-out-t25 Inv-loop μ-loop
+element-copy-out-t25 c = search needs
 
 row-length-requires : tie.Need-row-length-requires Inv-loop μ-loop
 row-length-requires c κs = search needs
 
 add-sum : tie.Need-add-sum Inv-loop μ-loop
 add-sum c =
-    let s = c .before .before .before .before .before .before .args in
-    let cols = held (s .src .now) (s .dst .now) (s .due .now) in
-    let k = c .before .before .before .before .before .loop in
+    let s = c .before .before .before .before .before .before .before .args in
+    let cols = held (s .src .now) (s .dst .now) (s .len .now) (s .due .now) in
+    let k = c .before .before .before .before .before .before .loop in
     let next = rows-next (s .rows) cols (k .i) (omega arith) in
     let parts = length-append (rowText (rowOf cols (k .i))) (rowsText (drop (k .i + 1) (listed (s .rows) cols))) in
     omega (arith, ap length next, parts, rows-most (s .rows) cols, c .row-length .ensures)
@@ -62,9 +68,9 @@ loop-less c = search needs
 
 loop-again : tie.Need-loop-again Inv-loop μ-loop
 loop-again c =
-    let s = c .before .before .before .before .before .before .args in
-    let cols = held (s .src .now) (s .dst .now) (s .due .now) in
-    let k = c .before .before .before .before .before .loop in
+    let s = c .before .before .before .before .before .before .before .args in
+    let cols = held (s .src .now) (s .dst .now) (s .len .now) (s .due .now) in
+    let k = c .before .before .before .before .before .before .loop in
     let next = rows-next (s .rows) cols (k .i) (omega arith) in
     let parts = length-append (rowText (rowOf cols (k .i))) (rowsText (drop (k .i + 1) (listed (s .rows) cols))) in
     (omega arith, omega (arith, ap length next, parts, c .row-length .ensures))
@@ -72,7 +78,7 @@ loop-again c =
 returns : tie.Need-returns Inv-loop μ-loop
 returns c =
     let s = c .before .before .args in
-    let cols = held (s .src .now) (s .dst .now) (s .due .now) in
+    let cols = held (s .src .now) (s .dst .now) (s .len .now) (s .due .now) in
     omega (arith, ap length (no-rows (s .rows) cols (c .before .loop .i) (omega arith)))
 
 pub rows-length-spec : {M : Type 1} → statement M
@@ -82,12 +88,14 @@ rows-length-spec =
     Inv-loop
     μ-loop
     loop-holds
-    mul-t9
-    element-copy-out-t12
-    mul-t13
-    element-copy-out-t16
-    mul-t17
-    element-copy-out-t20
+    mul-t10
+    element-copy-out-t13
+    mul-t14
+    element-copy-out-t17
+    mul-t18
+    element-copy-out-t21
+    mul-t22
+    element-copy-out-t25
     row-length-requires
     add-sum
     add-i

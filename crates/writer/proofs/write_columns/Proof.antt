@@ -42,13 +42,13 @@ line-length-requires-2 c κs = search needs
 
 add-head : tie.Need-add-head
 add-head c =
-    let nodes = c .before .before .before .before .before .before .before .before .before .args .nodes in
-    let rows = c .before .before .before .before .before .before .before .before .before .args .rows in
-    let columns = c .before .before .before .before .before .before .before .before .before .args .columns in
-    let area = c .before .before .before .before .before .before .before .before .before .args .area .now in
+    let nodes = c .before .before .before .before .before .before .before .before .before .before .args .nodes in
+    let rows = c .before .before .before .before .before .before .before .before .before .before .args .rows in
+    let columns = c .before .before .before .before .before .before .before .before .before .before .args .columns in
+    let area = c .before .before .before .before .before .before .before .before .before .before .args .area .now in
     let l1 = c .before .before .line-length in
     let l2 = c .line-length2 in
-    let few = c .before .before .before .before .before .before .before .if1 .left in
+    let few = c .before .before .before .before .before .before .before .before .if1 .left in
     omega (arith, text-most nodes rows columns area few, l1 .ensures, l2 .ensures)
 
 rows-length-requires : tie.Need-rows-length-requires
@@ -57,14 +57,14 @@ rows-length-requires c κs = search needs
 add-length : tie.Need-add-length
 add-length c =
     let back10 = c .before .before .before .before .before .before .before .before .before .before in
-    let nodes = back10 .before .before .before .args .nodes in
-    let rows = back10 .before .before .before .args .rows in
-    let columns = back10 .before .before .before .args .columns in
-    let area = back10 .before .before .before .args .area .now in
-    let l1 = c .before .before .before .before .before .before .line-length in
-    let l2 = c .before .before .before .before .line-length2 in
+    let nodes = back10 .before .before .before .before .before .args .nodes in
+    let rows = back10 .before .before .before .before .before .args .rows in
+    let columns = back10 .before .before .before .before .before .args .columns in
+    let area = back10 .before .before .before .before .before .args .area .now in
+    let l1 = c .before .before .before .before .before .before .before .line-length in
+    let l2 = c .before .before .before .before .before .line-length2 in
     let l3 = c .rows-length in
-    let few = back10 .before .if1 .left in
+    let few = back10 .before .before .before .if1 .left in
     omega (arith, text-most nodes rows columns area few, l1 .ensures, l2 .ensures, l3 .ensures)
 
 not-written-requires-2 : tie.Need-not-written-requires-2
@@ -73,14 +73,14 @@ not-written-requires-2 c κs = search needs
 returns-2 : tie.Need-returns-2
 returns-2 c =
     let back10 = c .before .before .before .before .before .before .before .before .before .before in
-    let nodes = back10 .before .before .before .before .before .args .nodes in
-    let rows = back10 .before .before .before .before .before .args .rows in
-    let columns = back10 .before .before .before .before .before .args .columns in
-    let area = back10 .before .before .before .before .before .args .area .now in
-    let l1 = c .before .before .before .before .before .before .before .before .line-length in
-    let l2 = c .before .before .before .before .before .before .line-length2 in
+    let nodes = back10 .before .before .before .before .before .before .before .args .nodes in
+    let rows = back10 .before .before .before .before .before .before .before .args .rows in
+    let columns = back10 .before .before .before .before .before .before .before .args .columns in
+    let area = back10 .before .before .before .before .before .before .before .args .area .now in
+    let l1 = c .before .before .before .before .before .before .before .before .before .line-length in
+    let l2 = c .before .before .before .before .before .before .before .line-length2 in
     let l3 = c .before .before .rows-length in
-    let few = back10 .before .before .before .if1 .left in
+    let few = back10 .before .before .before .before .before .if1 .left in
     let so = no-room nodes rows columns area few
     (omega (
       arith,
@@ -115,16 +115,16 @@ returns-3 c =
     let back10 = c .before .before .before .before .before .before .before .before .before .before in
     let back20 = back10 .before .before .before .before .before .before .before .before .before .before in
     let back30 = back20 .before .before .before .before .before .before .before .before .before .before in
-    let nodes = back30 .before .args .nodes in
-    let rows = back30 .before .args .rows in
-    let columns = back30 .before .args .columns in
-    let area = back30 .before .args .area .now in
-    let l1 = back20 .before .before .before .before .line-length in
-    let l2 = back20 .before .before .line-length2 in
-    let l3 = back10 .before .before .before .before .before .before .before .before .rows-length in
-    let few = back20 .before .before .before .before .before .before .before .before .before .if1 .left in
-    let p1 = back10 .before .before .before .before .put-line in
-    let p2 = c .before .before .before .before .before .before .before .before .before .put-line2 in
+    let nodes = back30 .before .before .before .before .args .nodes in
+    let rows = back30 .before .before .before .before .args .rows in
+    let columns = back30 .before .before .before .before .args .columns in
+    let area = back30 .before .before .before .before .args .area .now in
+    let l1 = back20 .before .before .before .before .before .before .line-length in
+    let l2 = back20 .before .before .before .before .line-length2 in
+    let l3 = back10 .before .before .before .before .before .before .before .before .before .rows-length in
+    let few = back30 .before .before .if1 .left in
+    let p1 = back10 .before .before .before .before .before .put-line in
+    let p2 = back10 .put-line2 in
     let p3 = c .before .before .put-rows in
     let a = line nodes-key nodes in
     let b = line rows-key rows in
@@ -135,14 +135,14 @@ returns-3 c =
     (omega (
       arith,
       total,
-      back10 .before .before .before .before .before .before .before .if2 .left,
+      back10 .before .before .before .before .before .before .before .before .if2 .left,
     )) in
     let fits : 0 + (length a + length b + length d) ≤ length area =
     omega (
       arith,
       total,
       text-length nodes rows columns area,
-      back10 .before .before .before .before .before .before .before .if2 .left,
+      back10 .before .before .before .before .before .before .before .before .if2 .left,
     ) in
     let placed = three-placed area 0 a b d fits (p1 .result) (p1 .last .0) (p1 .ensures .0) (p1 .ensures .1)
     (p2 .result) (p2 .last .0) (p2 .ensures .0) (p2 .ensures .1) (p3 .last .0) (p3 .ensures) in

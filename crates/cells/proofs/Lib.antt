@@ -1,0 +1,5 @@
+pub mod Seats
+pub mod Laying
+pub mod Telling
+pub mod Tests
+mod Cases

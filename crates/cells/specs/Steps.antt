@@ -1,0 +1,42 @@
+-- What single steps of the code ask and do. Nothing here has to be believed.
+use Prim.Native.Nat.{ℕ, suc, _-_, _*_, _≤_, _<_}
+use mathlib.Core.Path.{_≡_}
+use mathlib.Core.List.{List, _++_}
+use lib.ListN.{length, getD, take, drop}
+use Rattle.lists.specs.Lists.{build, total}
+use Rattle.cells.specs.Rows.{ownersOf, laidOut}
+use Rattle.cells.specs.Cells.{duesOf}
+
+-- n numbers of which the last is given and each one before it is `step` less, 0 where that would be below 0.
+unfoldable pub falling : (n last step : ℕ) → List ℕ
+falling n last step = build n (λ j. last - step * (n - suc j))
+
+-- A list with a part in the place of its entries from `first` up to `next`.
+unfoldable pub written : (first next : ℕ) → (part cells : List ℕ) → List ℕ
+written first next part cells = take first cells ++ (part ++ drop next cells)
+
+-- There is a place for each cell in each of four lists, and an entry for each row in each of three columns.
+pub record Open (len dst due links cell-dst cell-due owner left : List ℕ) : Type 0 where
+  pub rows : length len ≤ 65535
+  pub dst-each : length dst ≡ length len
+  pub due-each : length due ≡ length len
+  pub links-each : length links ≡ length len
+  pub dst-room : length cell-dst ≡ total len
+  pub due-room : length cell-due ≡ total len
+  pub owner-room : length owner ≡ total len
+  pub left-room : length left ≡ total len
+
+-- The four lists speak of the cells of the rows.
+pub record Laid (len dst due links cell-dst cell-due owner left : List ℕ) : Type 0 where
+  pub dst-is : cell-dst ≡ laidOut len dst
+  pub due-is : cell-due ≡ duesOf len due
+  pub owner-is : owner ≡ ownersOf len
+  pub left-is : left ≡ laidOut len links
+
+-- No entry is above m.
+abbrev pub AtMost : ℕ → List ℕ → Type 0
+AtMost m xs = (k : ℕ) → k < length xs → getD xs k 0 ≤ m
+
+-- Every entry is above 0.
+abbrev pub AboveZero : List ℕ → Type 0
+AboveZero xs = (k : ℕ) → k < length xs → 0 < getD xs k 0
