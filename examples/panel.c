@@ -1,6 +1,7 @@
 /* An operator's path: enter a table, plan it, look at the plan; then meet a refusal, mend it, and meet a late table; then
-   send a message of several cells, and meet one that is too long; then keep the table as text, read it back, and meet a
-   wrong line; then edit a table row by row with the load of each link in view, and plan it. */
+   send a message of several cells, and meet one that is too long; then test the fibre with a message once round, and meet
+   one that is due a slot too early; then keep the table as text, read it back, and meet a wrong line; then edit a table row
+   by row with the load of each link in view, and plan it. */
 #include "garboardle.h"
 
 #include <stdio.h>
@@ -145,12 +146,13 @@ static void edit(void)
     report("remove row 0", garboardle_remove(&desk, 0));
     report("change row 1", garboardle_change(&desk, 1, (struct garboardle_row){1, 3, 1, 4}));
     report("remove row 2", garboardle_remove(&desk, 2));
+    report("add once round", garboardle_add(&desk, (struct garboardle_row){3, 3, 1, 9}));
 }
 
 /* Plans the edited table, then the same rows entered afresh, and compares what came of both. */
 static void plan_edited(void)
 {
-    struct garboardle_row rows[] = {{1, 3, 1, 4}, {2, 1, 3, 6}};
+    struct garboardle_row rows[] = {{1, 3, 1, 4}, {2, 1, 3, 6}, {3, 3, 1, 9}};
     struct garboardle_answer a = garboardle_plan_table(&desk, plan, LENGTH(plan), arrivals, LENGTH(arrivals));
     struct garboardle_answer b =
         garboardle_plan(4, rows, LENGTH(rows), plan_afresh, LENGTH(plan_afresh), arrivals_afresh, LENGTH(arrivals_afresh));
@@ -187,6 +189,12 @@ int main(void)
 
     table[0].len = 65;
     operate("too long", 4, table, LENGTH(table));
+
+    struct garboardle_row test[] = {{2, 2, 3, 6}};
+    operate("once round", 4, test, LENGTH(test));
+
+    test[0].due = 5;
+    operate("hurried round", 4, test, LENGTH(test));
 
     table[0].len = 2;
     keep(4, table, LENGTH(table));

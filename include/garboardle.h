@@ -29,7 +29,8 @@ extern "C" {
 #define GARBOARDLE_LONGEST_LABEL 96
 
 /* One message: len cells from node src to node dst, the last of them there at instant due or before. Each cell moves by
-   itself, and none overtakes an earlier one. Rows are numbered from 1, in list order. */
+   itself, and none overtakes an earlier one. Where src equals dst it goes once round, over every link, and is there after
+   as many moves as there are nodes. Rows are numbered from 1, in list order. */
 struct garboardle_row {
     uint16_t src;
     uint16_t dst;
@@ -45,7 +46,6 @@ struct garboardle_row {
    2       more than 512 rows                    0    0
    3       source not below nodes                row  0
    4       destination not below nodes           row  0
-   5       source equals destination             row  0
    10      length outside 1 to 64                row  0
    6       due slot outside 1 to 1,024           row  0
    11      more than 1,024 cells in all          0    0
@@ -53,14 +53,14 @@ struct garboardle_row {
    8       arrivals area shorter than the rows   0    0
    9       late: no schedule is in time          row  instant
 
-   They are checked in the order 1, 2, the rows in order with 3, 4, 5, 10, 6 within a row, 11, 7, 8, 9; the first that holds
-   is given. */
+   They are checked in the order 1, 2, the rows in order with 3, 4, 10, 6 within a row, 11, 7, 8, 9; the first that holds
+   is given. 5, for a source that equals its destination, is kept as a number and never given on a ring. */
 struct garboardle_answer {
     uint16_t number;
     uint16_t row;
     uint16_t slot;
     uint16_t last;  /* last delivery instant */
-    uint32_t sends; /* sends: the sum of all cells' distances */
+    uint32_t sends; /* sends: the sum of all cells' distances, nodes for one that goes once round */
     uint32_t sum;   /* sum of the rows' delivery instants */
     double mean;    /* mean delay: sum / rows */
     double share;   /* used share: sends / (nodes * last) */
@@ -121,7 +121,7 @@ struct garboardle_write_answer garboardle_write(uint16_t nodes, const struct gar
                                                 uint8_t *area, size_t area_len);
 
 /* A table that is edited row by row, with the load of each link: how many cells cross it on their way from source up to
-   destination, round node 0. Link p leads out of node p.
+   destination, round node 0. One that goes once round crosses every link once. Link p leads out of node p.
 
    The panel owns the area, 4,164 bytes without gaps, and lends it for each call; nothing is kept of it after the call. The
    panel may read every field at any time, and hand row and rows to garboardle_plan and garboardle_write, but it writes to
@@ -142,11 +142,10 @@ struct garboardle_table {
    12      changing, removing or showing a row that is not there                  the number asked for
    3       source not below nodes                                                 row
    4       destination not below nodes                                            row
-   5       source equals destination                                              row
    10      length outside 1 to 64                                                 row
    6       due slot outside 1 to 1,024                                            row
 
-   3, 4, 5, 10 and 6 are about the row that is given: to adding, under its coming number, or to changing, under the number
+   3, 4, 10 and 6 are about the row that is given: to adding, under its coming number, or to changing, under the number
    asked for. How many cells the rows have in all is no matter here: planning gives 11. An area of zeros that was never
    opened gives 1. */
 

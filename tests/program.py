@@ -3,8 +3,9 @@
 
 Usage: python3 tests/program.py PROGRAM
 
-The program is run on the sweep cases, on rows of several cells, on texts of the old form, on every prefix and many single-byte changes
-of two small texts, on long texts, and on random tables; what it prints is compared byte by byte. The last line counts the runs.
+The program is run on the sweep cases, on rows of several cells, on rows that go once round, on texts of the old form, on every prefix
+and many single-byte changes of two small texts, on long texts, and on random tables; what it prints is compared byte by byte. The last
+line counts the runs.
 """
 import random
 import re
@@ -51,8 +52,6 @@ def judge(nodes, rows):
             raise Refused(3, number)
         if dst >= nodes:
             raise Refused(4, number)
-        if src == dst:
-            raise Refused(5, number)
         if not 1 <= length <= 64:
             raise Refused(10, number)
         if not 1 <= due <= 1024:
@@ -71,7 +70,8 @@ def plan(nodes, rows):
     t = 0
     waiting = list(range(len(cells)))
     while waiting:
-        slack = {c: cells[c][2] - t - (cells[c][1] - place[c]) % nodes for c in waiting}
+        # links to go are 1 to N: a cell that waits at its destination hasn't left it yet
+        slack = {c: cells[c][2] - t - (1 + (cells[c][1] - place[c] - 1) % nodes) for c in waiting}
         for c in waiting:
             if slack[c] < 0:
                 raise Refused(9, cells[c][0] + 1, t)
@@ -153,6 +153,35 @@ def blocks():
         yield table(nodes, rows)
 
 
+def turns():
+    """Rows from a node to itself: each node of some rings, in time and late by one, beside other rows, and in blocks."""
+    for nodes in (2, 3, 4, 31, 32):
+        for node in {0, 1, nodes // 2, nodes - 1}:
+            for length in (1, 2, 64):
+                for due in (nodes + length - 1, nodes + length - 2, 1024):
+                    yield table(nodes, [(node, node, length, due)])
+    for nodes, rows in (
+        (4, [(2, 2, 1, 5), (2, 2, 1, 5)]),
+        (4, [(2, 2, 1, 4), (2, 2, 1, 4)]),
+        (4, [(node, node, 1, 4) for node in range(4)]),
+        (4, [(node, node, 1, 4) for node in range(4)] + [(0, 1, 1, 4)]),
+        (4, [(1, 1, 1, 5), (1, 2, 1, 2)]),
+        (4, [(1, 2, 1, 2), (1, 1, 1, 4)]),
+        (4, [(2, 2, 1, 7)] + [(1, 2, 1, 5)] * 3 + [(1, 2, 1, 8)]),
+        (4, [(2, 2, 1, 7)] + [(1, 2, 1, 5)] * 3 + [(1, 2, 1, 6)]),
+        (4, [(0, 0, 2, 6), (0, 2, 1, 3)]),
+        (2, [(0, 0, 64, 1024)] * 15 + [(0, 0, 63, 1024)]),
+        (2, [(0, 0, 64, 1024)] * 16),
+        (2, [(1, 1, 64, 1024)] * 16 + [(0, 0, 1, 1)]),
+        (4, [(3, 3, 0, 9)]),
+        (4, [(3, 3, 65, 0)]),
+        (4, [(3, 3, 1, 0)]),
+        (4, [(4, 4, 1, 9)]),
+        (1, [(0, 0, 1, 9)]),
+    ):
+        yield table(nodes, rows)
+
+
 def old_texts():
     """Texts without lengths, and with a length's line doubled or out of its place."""
     for count in (0, 1, 2, 512, 513):
@@ -197,7 +226,7 @@ def random_tables(rng):
         for _ in range(rng.choice((1, 3, 10, 60, 200))):
             src, length = rng.randrange(nodes), rng.choice((1, 1, 1, rng.randint(1, 9), rng.randint(1, 64)))
             due = rng.randint(1, rng.choice((6, 40, 200, 1024)))
-            rows.append((src, (src + rng.randrange(1, nodes)) % nodes, length, due))
+            rows.append((src, rng.randrange(nodes), length, due))
         yield table(nodes, rows)
     yield table(32, [(i % 32, (i + 31) % 32, 1, 1024) for i in range(512)])
     yield table(32, [(i % 32, (i + 7) % 32, 2, 1024) for i in range(512)])
@@ -206,7 +235,7 @@ def random_tables(rng):
 def main():
     program = sys.argv[1]
     runs = accepted = 0
-    for texts in (sweep(), blocks(), old_texts(), damaged(), long_texts(), random_tables(random.Random(1))):
+    for texts in (sweep(), blocks(), turns(), old_texts(), damaged(), long_texts(), random_tables(random.Random(1))):
         for text in texts:
             said = subprocess.run([program], input=text, capture_output=True, check=True).stdout.decode()
             if said != expected(text):

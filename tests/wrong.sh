@@ -2,7 +2,8 @@
 # wrong.sh [FIRST [LAST]]: holds the tests themselves to account: functions in C pass them, and each of their faulty kin is
 # turned away. Up to 28 it is the planner that is faulty, from 29 on the reader or the writer, from 57 on what edits a table,
 # from 128 on what judges a catalogue or writes of it. From 219 on it is what they make of lengths: the planner, from 239 on
-# the reader or the writer, from 244 on what edits a table.
+# the reader or the writer, from 244 on what edits a table. From 253 on it is what they make of full turns: the planner, from
+# 263 on what edits a table.
 set -euo pipefail
 cd "$(dirname "$0")/.."
 planners=28
@@ -11,7 +12,9 @@ edits=127
 catalogues=218
 lengths_planned=238
 lengths_read=243
-most=252
+lengths_edited=252
+turns_planned=262
+most=265
 export CARGO_TARGET_DIR=$PWD/tests/target/wrong
 mkdir -p "$CARGO_TARGET_DIR"
 failed=0
@@ -24,7 +27,7 @@ for k in $(seq "${1:-0}" "${2:-$most}"); do
         ar rcs "$lib/libpanel.a" "$lib/$part.o"
     done
     if [ "$k" -eq 0 ]; then
-        tests="--test guarded --test worked --test cells_worked --test refused --test small --test large --test text --test edit --test catalogue"
+        tests="--test guarded --test worked --test cells_worked --test turns_worked --test refused --test small --test large --test text --test edit --test catalogue"
     elif [ "$k" -le "$planners" ]; then
         tests="--test guarded --test worked --test refused --test small --test large --test text"
     elif [ "$k" -le "$texts" ]; then
@@ -37,8 +40,12 @@ for k in $(seq "${1:-0}" "${2:-$most}"); do
         tests="--test cells_worked --test refused --test small"
     elif [ "$k" -le "$lengths_read" ]; then
         tests="--test text"
-    else
+    elif [ "$k" -le "$lengths_edited" ]; then
         tests="--test edit"
+    elif [ "$k" -le "$turns_planned" ]; then
+        tests="--test turns_worked --test refused --test small"
+    else
+        tests="--test turns_worked --test edit"
     fi
     status=0
     PANEL_LIB=$lib timeout 300 cargo test --release --offline --locked --manifest-path tests/Cargo.toml \

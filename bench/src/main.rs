@@ -55,10 +55,10 @@ struct Full {
     high: usize,
 }
 
-/// A full table, of rows of one cell, or of rows whose lengths make up so many cells.
+/// A full table, of rows of one cell, or of rows whose lengths make up so many cells; some go once round.
 fn table(random: &mut Random, full: Full) -> Vec<Row> {
     let row = |_| {
-        let (src, distance) = (random.node(NODES), random.within(1, NODES as usize - 1));
+        let (src, distance) = (random.node(NODES), random.within(1, NODES as usize));
         let dst = ((src as usize + distance) % NODES as usize) as u16;
         let due = (distance + random.within(full.low, full.high)).min(1024) as u16;
         Row::single(src, dst, due)

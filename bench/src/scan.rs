@@ -71,7 +71,6 @@ fn fault(nodes: u16, r: &Row) -> u16 {
     match r {
         r if r.src >= nodes => 3,
         r if r.dst >= nodes => 4,
-        r if r.src == r.dst => 5,
         r if r.len == 0 || r.len > 64 => 10,
         r if r.due == 0 || r.due > 1024 => 6,
         _ => 0,

@@ -8,7 +8,7 @@ use crate::panel::{EditAnswer, Link, Row, RowAnswer, Table, LOADS, PER_ROW, ROWS
 /// The most links that a ring may have.
 const MOST_LINKS: u16 = 32;
 
-/// Link p lies on a row's way, whatever the row's numbers are.
+/// Link p lies on a row's way, whatever the row's numbers are; equal ends are a full turn.
 pub fn crosses(nodes: u16, row: Row, p: u16) -> bool {
     let on_way = if row.src < row.dst {
         (row.src..row.dst).contains(&p)

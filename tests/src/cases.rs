@@ -45,10 +45,10 @@ pub fn each(
     tally
 }
 
-/// A row of one cell between two nodes of the ring, due as `due` says of its distance.
+/// A row of one cell from a node of the ring to any other or once round to itself, due as `due` says of its distance.
 pub fn row(random: &mut Random, nodes: u16, due: impl FnOnce(&mut Random, usize) -> usize) -> Row {
     let src = random.node(nodes);
-    let distance = random.within(1, nodes as usize - 1);
+    let distance = random.within(1, nodes as usize);
     let dst = ((src as usize + distance) % nodes as usize) as u16;
     Row::single(src, dst, due(random, distance) as u16)
 }
@@ -114,9 +114,7 @@ fn small_table(random: &mut Random) -> (u16, Vec<Row>) {
         .collect();
     if crowded {
         let src = random.node(nodes);
-        rows.iter_mut()
-            .filter(|r| r.dst != src)
-            .for_each(|r| r.src = src);
+        rows.iter_mut().for_each(|r| r.src = src);
     }
     if !rows.is_empty() && !random.once_in(3) {
         for _ in count..random.within(count, search::MOST_CELLS) {
@@ -230,7 +228,8 @@ pub enum Dues {
 /// Sets due slots so early that most often some row is late: a node that sends one cell in each slot can't send m cells that
 /// must all have left before m slots are over.
 fn cut(random: &mut Random, nodes: u16, rows: &mut [Row]) {
-    let distance = |r: &Row| (r.dst + nodes - r.src) % nodes;
+    // from 1 to N
+    let distance = |r: &Row| (r.dst + nodes - r.src - 1) % nodes + 1;
     let one = rows[random.within(0, rows.len() - 1)];
     if random.once_in(4) {
         for _ in 0..random.within(1, 4) {
@@ -257,10 +256,7 @@ pub fn large_table(random: &mut Random, nodes: u16, count: usize, dues: Dues) ->
         // most of them from few nodes
         let few = random.within(1, 3);
         for r in rows.iter_mut() {
-            let src = random.within(0, few - 1) as u16 % nodes;
-            if src != r.dst {
-                r.src = src;
-            }
+            r.src = random.within(0, few - 1) as u16 % nodes;
         }
     }
     match random.within(0, 3) {
@@ -359,6 +355,7 @@ pub fn faulty(random: &mut Random) -> Result<&'static str, String> {
             }
             3 => rows[i].src = [nodes, nodes.saturating_add(1), 65535][random.within(0, 2)],
             4 => rows[i].dst = [nodes, nodes.saturating_add(1), 65535][random.within(0, 2)],
+            // no fault: it goes once round
             5 => rows[i].dst = rows[i].src,
             6 => rows[i].due = [0, 1025, 1026, 65535][random.within(0, 3)],
             7 => rows[i].len = [0, 65, 66, 65535][random.within(0, 3)],
@@ -382,7 +379,7 @@ pub fn faulty(random: &mut Random) -> Result<&'static str, String> {
     Ok(ANSWERS[planned.answer.number as usize])
 }
 
-/// The names of the planner's answers.
+/// The names of the planner's answers by number; 5 is none of them on a ring.
 pub const ANSWERS: [&str; 12] = [
     "accepted", "1", "2", "3", "4", "5", "6", "7", "8", "9", "10", "11",
 ];

@@ -3,7 +3,8 @@
 
 use crate::panel::Row;
 
-/// Where the cells of a row stand, in their order; nowhere once they are delivered.
+/// Where the cells of a row stand, in their order; nowhere once they are delivered. A cell is delivered as it comes to its
+/// destination, so standing there at the start doesn't count.
 type Places = Vec<Option<usize>>;
 
 fn at_start(rows: &[Row]) -> Vec<Places> {
@@ -83,12 +84,12 @@ pub fn check(nodes: u16, rows: &[Row], plan: &[u16]) -> Result<Vec<u16>, String>
 /// Whether a legal plan sends at each node the cell that the paper's equation (1) puts first, and never idles beside one.
 pub fn follows_rule(nodes: u16, rows: &[Row], plan: &[u16]) -> Result<(), String> {
     let n = nodes as usize;
-    // by equation (1): due - destination, less N where the cell is beyond its destination; a cell's due slot is its row's
-    // less the cells behind it
+    // by equation (1): due - destination, less N where the cell is beyond its destination, or has not left it yet; a cell's
+    // due slot is its row's less the cells behind it
     let standing = |i: usize, c: usize, p: usize| {
         let r = &rows[i];
         let due = r.due as i32 - (r.len as i32 - 1 - c as i32);
-        due - r.dst as i32 - if p > r.dst as usize { n as i32 } else { 0 }
+        due - r.dst as i32 - if p >= r.dst as usize { n as i32 } else { 0 }
     };
     let mut places = at_start(rows);
     for (t, slot) in plan.chunks(n).enumerate() {

@@ -36,8 +36,11 @@ pub fn refused(number: u16, row: u16) -> EditAnswer {
 
 /// The links that a good row crosses, one after another from its source.
 pub fn way(nodes: u16, row: Row) -> impl Iterator<Item = u16> {
-    let next = move |&p: &u16| Some(if p + 1 == nodes { 0 } else { p + 1 });
-    std::iter::successors(Some(row.src), next).take_while(move |&p| p != row.dst)
+    let next = move |&p: &u16| {
+        let node = if p + 1 == nodes { 0 } else { p + 1 };
+        (node != row.dst).then_some(node)
+    };
+    std::iter::successors(Some(row.src), next)
 }
 
 /// A table that was opened and edited, and never damaged.

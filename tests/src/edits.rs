@@ -45,7 +45,7 @@ fn good_row(random: &mut Random, nodes: u16, dues: Dues) -> Row {
     Row { len, ..row }
 }
 
-/// One to three faults, so that the order of the refusals counts.
+/// Up to three faults, so that the order of the refusals counts: equal ends are none.
 fn spoil(random: &mut Random, nodes: u16, row: &mut Row) {
     for _ in 0..random.within(1, 3) {
         let off = [nodes, nodes.saturating_add(1), 32, 65535][random.within(0, 3)];

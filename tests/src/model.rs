@@ -43,8 +43,9 @@ impl Ring {
         }
     }
 
+    /// The links that a cell still has to go: all N where it stands at its destination, which it hasn't left yet.
     fn to_go(&self, from: u16, to: u16) -> u16 {
-        if from <= to {
+        if from < to {
             to - from
         } else {
             self.nodes - from + to
@@ -114,8 +115,6 @@ pub fn fault(nodes: u16, row: &Row) -> Option<u16> {
         Some(3)
     } else if row.dst >= nodes {
         Some(4)
-    } else if row.src == row.dst {
-        Some(5)
     } else if !(1..=LONGEST).contains(&row.len) {
         Some(10)
     } else if !(1..=1024).contains(&row.due) {

@@ -3,8 +3,10 @@
 
 use crate::panel::Row;
 
-/// At most so many cells, and distances below 8: a state is three bits for each cell, the links that it has gone.
+/// At most so many cells, and so many nodes: a state is three bits for each cell, the links that it has gone, up to a full
+/// turn of 7 nodes.
 pub const MOST_CELLS: usize = 7;
+const MOST_NODES: usize = 7;
 
 #[derive(Clone, Copy)]
 struct Reached {
@@ -12,7 +14,7 @@ struct Reached {
     /// The state that it was reached from, in the slot before.
     from: usize,
     /// The row that each link carried a cell of on the way.
-    slot: [u16; 8],
+    slot: [u16; MOST_NODES],
 }
 
 /// A cell, by the index of its row, where it starts, and how far it has to go.
@@ -30,7 +32,10 @@ fn gone(state: usize, cell: usize) -> usize {
 fn cells(n: usize, rows: &[Row]) -> Vec<Cell> {
     let of_row = |(row, r): (usize, &Row)| {
         let (src, dst) = (r.src as usize, r.dst as usize);
-        let distance = (dst + n - src) % n;
+        let distance = match (dst + n - src) % n {
+            0 => n,
+            links => links,
+        };
         (0..r.len).map(move |_| Cell { row, src, distance })
     };
     rows.iter().enumerate().flat_map(of_row).collect()
@@ -53,13 +58,13 @@ fn choices(n: usize, cells: &[Cell], state: usize) -> Vec<Vec<(usize, usize)>> {
 pub fn schedule(nodes: u16, rows: &[Row]) -> Option<Vec<u16>> {
     let n = nodes as usize;
     let cells = cells(n, rows);
-    assert!(cells.len() <= MOST_CELLS && n <= 8);
+    assert!(cells.len() <= MOST_CELLS && n <= MOST_NODES);
     let there = |state: usize, c: usize| gone(state, c) == cells[c].distance;
     let slots = rows.iter().map(|r| r.due as usize).max().unwrap_or(0);
     let mut layers = vec![vec![Reached {
         state: 0,
         from: 0,
-        slot: [0; 8],
+        slot: [0; MOST_NODES],
     }]];
     let mut seen = vec![u16::MAX; 1 << (3 * cells.len())];
 
@@ -69,7 +74,7 @@ pub fn schedule(nodes: u16, rows: &[Row]) -> Option<Vec<u16>> {
             let start = Reached {
                 state: reached.state,
                 from,
-                slot: [0; 8],
+                slot: [0; MOST_NODES],
             };
             spread(&choices(n, &cells, reached.state), 0, start, &mut |r| {
                 // a cell that isn't there when its row's due slot has come makes the schedule miss the table

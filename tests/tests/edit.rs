@@ -120,6 +120,7 @@ fn at_random(
     println!("edit: {met:?}");
     let often =
         |tally: &BTreeMap<u16, usize>, number| tally.get(number).is_some_and(|&k| k >= least);
+    assert!(!met.edits.contains_key(&5) && !met.plans.contains_key(&5));
     if std::env::var("SEED").is_err() {
         assert!(edits.iter().all(|k| often(&met.edits, k)), "{met:?}");
         assert!(plans.iter().all(|k| often(&met.plans, k)), "{met:?}");
@@ -129,25 +130,25 @@ fn at_random(
 
 #[test]
 fn tables_filled_and_emptied() {
-    let every = [0, 2, 3, 4, 5, 6, 10, 12];
+    let every = [0, 2, 3, 4, 6, 10, 12];
     at_random(full, (8_000_000, 240), &every, &[0, 7, 8, 9, 11], 50);
 }
 
 #[test]
 fn tables_of_few_rows() {
-    let every = [0, 3, 4, 5, 6, 10, 12];
+    let every = [0, 3, 4, 6, 10, 12];
     let met = at_random(few, (8_100_000, 12_000), &every, &[0, 7, 8, 9], 500);
     assert!(met.rings.len() == 31 || std::env::var("SEED").is_ok());
 }
 
 #[test]
 fn areas_that_somebody_damaged() {
-    let every = [0, 1, 2, 3, 4, 5, 6, 10, 12];
+    let every = [0, 1, 2, 3, 4, 6, 10, 12];
     at_random(
         damaged,
         (8_200_000, 40_000),
         &every,
-        &[0, 1, 2, 3, 4, 5, 6, 10, 11],
+        &[0, 1, 2, 3, 4, 6, 10, 11],
         50,
     );
 }
@@ -158,7 +159,7 @@ fn every_way_of_every_ring() {
         let mut tried = Tried::opened(nodes);
         for (src, dst) in ways(nodes) {
             let links = (dst + nodes - src) % nodes;
-            let crossed = |p: u16| u16::from((p + nodes - src) % nodes < links);
+            let crossed = |p: u16| u16::from(src == dst || (p + nodes - src) % nodes < links);
             assert_eq!(tried.add(row(src, dst, 1)), (0, 0));
             assert_eq!(tried.loads(), (0..nodes).map(crossed).collect::<Vec<_>>());
             assert_eq!(tried.remove(1), (0, 0));
@@ -167,9 +168,9 @@ fn every_way_of_every_ring() {
     }
 }
 
+/// Every way of a ring, full turns too.
 fn ways(nodes: u16) -> impl Iterator<Item = (u16, u16)> {
-    let ends = (0..nodes).flat_map(move |src| (0..nodes).map(move |dst| (src, dst)));
-    ends.filter(|(src, dst)| src != dst)
+    (0..nodes).flat_map(move |src| (0..nodes).map(move |dst| (src, dst)))
 }
 
 #[test]
@@ -222,6 +223,7 @@ fn a_full_table() {
         row(3, 3, 0),
         row(0, 3, 9),
         row(1, 1, 9),
+        block(1, 1, 0, 9),
         row(0, 1, 0),
     ] {
         assert_eq!(tried.add(row), (2, 0));
@@ -253,6 +255,7 @@ fn numbers_that_are_not_there() {
                 row(5, 5, 0),
                 row(0, 5, 9),
                 row(1, 1, 9),
+                block(1, 1, 0, 9),
                 row(0, 1, 0),
             ] {
                 assert_eq!(tried.change(number, row), (12, number));
@@ -281,9 +284,11 @@ fn rows_that_are_wrong() {
         (3, row(65535, 65535, 0)),
         (4, row(0, 4, 1)),
         (4, row(3, 65535, 0)),
-        (5, row(3, 3, 1)),
-        (5, row(0, 0, 1025)),
-        (5, block(0, 0, 0, 1)),
+        (3, row(4, 4, 1)),
+        (6, row(3, 3, 0)),
+        (6, row(0, 0, 1025)),
+        (10, block(0, 0, 0, 1)),
+        (10, block(2, 2, 65, 1025)),
         (10, block(3, 0, 0, 1)),
         (10, block(3, 0, 65, 1)),
         (10, block(3, 0, 66, 0)),
@@ -319,6 +324,40 @@ fn loads_count_cells() {
         assert_eq!(tried.loads(), [0, 2 * len, 2 * len, 2 * len]);
         assert_eq!(tried.remove(2), (0, 0));
     }
+}
+
+#[test]
+fn full_turns() {
+    // each cell crosses every link once, whichever node it starts from
+    let mut tried = Tried::with(4, &[row(2, 2, 9), block(0, 0, 5, 9), row(3, 1, 9)]);
+    assert_eq!(tried.loads(), [7, 6, 6, 7]);
+    assert_eq!(tried.busiest(), (0, 7));
+    assert_eq!(tried.shown(1), row(2, 2, 9));
+    assert_eq!(tried.change(3, block(3, 3, 64, 1024)), (0, 0));
+    assert_eq!(tried.loads(), [70; 4]);
+    assert_eq!(tried.busiest(), (0, 70));
+    // from another node the same loads, and a way that is no turn others
+    assert_eq!(tried.change(2, block(1, 1, 5, 9)), (0, 0));
+    assert_eq!(tried.loads(), [70; 4]);
+    assert_eq!(tried.change(3, block(1, 0, 64, 1024)), (0, 0));
+    assert_eq!(tried.loads(), [6, 70, 70, 70]);
+    assert_eq!(tried.remove(2), (0, 0));
+    assert_eq!(tried.loads(), [1, 65, 65, 65]);
+    assert_eq!(tried.remove(1), (0, 0));
+    assert_eq!(tried.loads(), [0, 64, 64, 64]);
+    // what is planned is due after N slots at the earliest
+    assert_eq!(tried.change(1, row(3, 3, 4)), (0, 0));
+    assert_eq!(tried.plan(16, 1), 0);
+    assert_eq!(tried.change(1, row(3, 3, 3)), (0, 0));
+    assert_eq!(tried.plan(12, 1), 9);
+    // as many as there may be, of as many cells
+    let mut tried = Tried::with(2, &[block(1, 1, 64, 1024); 512]);
+    assert_eq!(tried.loads(), [32_768; 2]);
+    assert_eq!(tried.plan(2048, 512), 11);
+    for _ in 0..512 {
+        assert_eq!(tried.remove(1), (0, 0));
+    }
+    assert_eq!(tried.desk.table(), Tried::opened(2).desk.table());
 }
 
 #[test]
@@ -475,7 +514,7 @@ fn rows_off_the_ring() {
         (row(4, 9, 9), [5, 5, 5, 5]),
         (row(9, 4, 9), [4, 4, 4, 4]),
         (row(9, 9, 9), [4, 4, 4, 4]),
-        (row(2, 2, 9), [4, 4, 4, 4]),
+        (row(4, 4, 9), [4, 4, 4, 4]),
         (row(65535, 0, 0), [5, 5, 5, 5]),
         (row(65535, 65535, 65535), [4, 4, 4, 4]),
     ] {

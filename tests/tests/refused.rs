@@ -28,7 +28,8 @@ fn answer(nodes: u16, rows: &[Row], plan_len: usize, arrivals_len: usize) -> (u1
 fn random_faults() {
     let tally = each("refused", faulty, 2_000_000, 4_000);
     if std::env::var("SEED").is_err() {
-        for number in ANSWERS {
+        assert!(!tally.contains_key("5"), "{tally:?}");
+        for number in ANSWERS.into_iter().filter(|&number| number != "5") {
             assert!(
                 tally.get(number).is_some_and(|&k| k >= 50),
                 "too few {number}: {tally:?}"
@@ -48,7 +49,8 @@ fn each_number_alone() {
     assert_eq!(answer(4, &[good[0]; 513], 36, 513), (2, 0, 0));
     assert_eq!(answer(4, &with(row(4, 2, 9)), 36, 3), (3, 2, 0));
     assert_eq!(answer(4, &with(row(3, 4, 9)), 36, 3), (4, 2, 0));
-    assert_eq!(answer(4, &with(row(3, 3, 9)), 36, 3), (5, 2, 0));
+    assert_eq!(answer(4, &with(row(3, 3, 9)), 36, 3), (0, 0, 0));
+    assert_eq!(answer(4, &with(row(3, 3, 3)), 36, 3), (9, 2, 0));
     assert_eq!(answer(4, &with(row(3, 2, 0)), 36, 3), (6, 2, 0));
     assert_eq!(answer(4, &with(row(3, 2, 1025)), 36, 3), (6, 2, 0));
     for len in [0, 65, 66, 256, 65535] {
@@ -72,7 +74,8 @@ fn the_order_of_the_checks() {
     assert_eq!(answer(32, &[worst; 513], 0, 0), (2, 0, 0));
     assert_eq!(answer(32, &[worst; 512], 0, 0), (3, 1, 0));
     assert_eq!(answer(32, &[block(0, 65535, 0, 65535)], 0, 0), (4, 1, 0));
-    assert_eq!(answer(32, &[block(0, 0, 0, 65535)], 0, 0), (5, 1, 0));
+    assert_eq!(answer(32, &[block(0, 0, 0, 65535)], 0, 0), (10, 1, 0));
+    assert_eq!(answer(32, &[row(31, 31, 0)], 0, 0), (6, 1, 0));
     assert_eq!(answer(32, &[block(0, 31, 0, 65535)], 0, 0), (10, 1, 0));
     assert_eq!(answer(32, &[block(0, 31, 65, 0)], 0, 0), (10, 1, 0));
     assert_eq!(answer(32, &[row(0, 31, 65535)], 0, 0), (6, 1, 0));

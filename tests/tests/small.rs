@@ -27,16 +27,21 @@ fn the_models_agree() {
     }
 }
 
-/// Every table of some rows for a ring, with lengths and due slots up to a largest one.
-fn all(nodes: u16, count: u32, longest: u16, latest: u16) {
+/// Every row of a ring, with lengths and due slots up to a largest one.
+fn kinds(nodes: u16, longest: u16, latest: u16) -> Vec<Row> {
     let mut kinds = Vec::new();
     for src in 0..nodes {
-        for dst in (0..nodes).filter(|&dst| dst != src) {
+        for dst in 0..nodes {
             for len in 1..=longest {
                 kinds.extend((1..=latest).map(|due| Row { src, dst, len, due }));
             }
         }
     }
+    kinds
+}
+
+/// Every table of so many rows of these kinds: how many there are, and how many of them are late.
+fn each_of(nodes: u16, count: u32, kinds: &[Row]) -> (usize, usize) {
     let mut random = Random::new(0);
     let (mut tables, mut late) = (0, 0);
     for mut code in 0..kinds.len().pow(count) {
@@ -50,9 +55,26 @@ fn all(nodes: u16, count: u32, longest: u16, latest: u16) {
         tables += 1;
         late += usize::from(judged(&mut random, nodes, &rows).unwrap() != "accepted");
     }
+    (tables, late)
+}
+
+/// Every table of some rows for a ring, with lengths and due slots up to a largest one, full turns among them.
+fn all(nodes: u16, count: u32, longest: u16, latest: u16) {
+    let (tables, late) = each_of(nodes, count, &kinds(nodes, longest, latest));
     println!(
         "all tables of {count} rows for {nodes} nodes, lengths up to {longest}, due up to {latest}: {tables}, {late} late"
     );
+}
+
+/// The same of full turns alone, which need later due slots.
+fn turns(nodes: u16, count: u32, longest: u16, latest: u16) {
+    let mut round = kinds(nodes, longest, latest);
+    round.retain(|r| r.src == r.dst);
+    let (tables, late) = each_of(nodes, count, &round);
+    println!(
+        "all tables of {count} full turns for {nodes} nodes, lengths up to {longest}, due up to {latest}: {tables}, {late} late"
+    );
+    assert!(late < tables, "none is in time");
 }
 
 #[test]
@@ -76,4 +98,15 @@ fn every_table_of_blocks() {
     all(3, 2, 3, 6);
     all(4, 2, 2, 6);
     all(5, 1, 7, 12);
+}
+
+#[test]
+fn every_table_of_full_turns() {
+    turns(2, 3, 2, 8);
+    turns(3, 3, 1, 8);
+    turns(3, 2, 3, 9);
+    turns(4, 2, 2, 9);
+    turns(5, 3, 1, 8);
+    turns(6, 2, 1, 10);
+    turns(7, 1, 4, 12);
 }

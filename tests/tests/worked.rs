@@ -49,7 +49,7 @@ fn the_sweep_table() {
     accepted(2, "1>0/3, 1>0/3, 1>0/3", &[0, 1, 0, 2, 0, 3], &[1, 2, 3]);
     refused(2, "1>0/2, 1>0/2, 1>0/2", 9, 3, 2);
     assert_eq!(accepted(4, "", &[], &[]), Answer::default());
-    refused(4, "0>0/1025", 5, 1, 0);
+    refused(4, "0>0/1025", 6, 1, 0);
     refused(2, "0>1/1025", 6, 1, 0);
     let mut plan = vec![0; 2048];
     plan[0] = 1;

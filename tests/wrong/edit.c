@@ -1,5 +1,5 @@
-/* Opening, editing and showing a table in C, with the fault that WRONG names, from 57 on and from 244 on, and with none
-   else. The tests must turn away every fault. */
+/* Opening, editing and showing a table in C, with the fault that WRONG names, from 57 on, from 244 on and from 263 on, and
+   with none else. The tests must turn away every fault. */
 #include "garboardle.h"
 
 #include <string.h>
@@ -25,7 +25,7 @@ static unsigned row_fault(unsigned n, struct garboardle_row r)
         return 3;
     if (r.dst >= n)
         return 4;
-    if (r.src == r.dst && WRONG != 62) /* 62: never 5 */
+    if (r.src == r.dst && WRONG == 62) /* 62: 5 for a full turn */
         return 5;
     if (WRONG == 244 && (r.due == 0 || r.due > 1024)) /* 244: 6 before 10 */
         return 6;
@@ -63,8 +63,10 @@ static int crosses(struct garboardle_row r, unsigned p)
         return src <= p;
     if (WRONG == 70 && r.src > r.dst) /* 70: the links that it leaves out */
         return dst <= p && p < src;
-    if (WRONG == 71 && r.src == r.dst) /* 71: a damaged row crosses no link */
+    if (WRONG == 71 && r.src == r.dst) /* 71: a full turn crosses no link */
         return 0;
+    if (WRONG == 263 && r.src == r.dst) /* 263: it does not cross the link out of its node */
+        return p != r.src;
     return r.src < r.dst ? src <= p && p < dst : src <= p || p < dst;
 }
 
@@ -160,6 +162,8 @@ struct garboardle_edit_answer garboardle_change(struct garboardle_table *t, uint
     unsigned missing = asked_fault(t, number), wrong = row_fault(t->nodes, r);
     if (WRONG == 89 && missing == 12 && wrong != 0) /* 89: 3 to 6 before 12 */
         return answer(wrong, number);
+    if (WRONG == 265 && missing == 0 && wrong == 0 && r.src == r.dst) /* 265: 5 where a row is changed to a full turn */
+        return answer(5, number);
     if (WRONG == 90 && missing == 12 && number == t->rows + 1) /* 90: adds a row under the coming number */
         return garboardle_add(t, r);
     if (missing != 0)
@@ -171,7 +175,8 @@ struct garboardle_edit_answer garboardle_change(struct garboardle_table *t, uint
         return answer(wrong, WRONG == 92 ? number - 1u : number); /* 92: named by its place */
     if (WRONG == 93) /* 93: the new row in first */
         count(t, r, 1);
-    if (WRONG != 91 && WRONG != 94) /* 94: the old row stays counted */
+    int stays = WRONG == 94 || (WRONG == 264 && old->src == old->dst); /* 94: the old row stays counted; 264: a full turn */
+    if (WRONG != 91 && !stays)
         count(t, *old, 0);
     if (WRONG != 93 && WRONG != 95) /* 95: the new row is not counted */
         count(t, r, 1);

@@ -1,5 +1,5 @@
-/* A planner in C with the fault that WRONG names, up to 28 and from 219 on, and with none else. The tests must turn away
-   every fault. */
+/* A planner in C with the fault that WRONG names, up to 28, from 219 on and from 253 on, and with none else. The tests must
+   turn away every fault. */
 #include "garboardle.h"
 
 static struct garboardle_answer refused(unsigned number, unsigned row, unsigned slot)
@@ -12,14 +12,19 @@ static unsigned fault(unsigned n, struct garboardle_row r)
 {
     if (r.src >= n)
         return 3;
-    if (r.dst >= n)
-        return 4;
-#if WRONG == 1 /* 6 before 5 */
-    if (r.due == 0 || r.due > 1024)
+#if WRONG == 1 /* 6 before 4 */
+    if (r.dst >= n && (r.due == 0 || r.due > 1024))
         return 6;
 #endif
+    if (r.dst >= n)
+        return 4;
+#if WRONG == 253 /* 5 for a full turn */
     if (r.src == r.dst)
         return 5;
+#elif WRONG == 254 /* 5 for a full turn that is due past 1,024 */
+    if (r.src == r.dst && r.due > 1024)
+        return 5;
+#endif
 #if WRONG == 219 /* 6 before 10 */
     if (r.due == 0 || r.due > 1024)
         return 6;
@@ -43,12 +48,21 @@ struct cell {
     int left;
     unsigned at;
     int last; /* whether it is its row's last */
+    int turn; /* whether it goes once round */
 };
+
+/* The links that a row's cells have to go: all where it goes to its own node. */
+static unsigned links(struct garboardle_row r, unsigned n)
+{
+    if (r.src == r.dst)
+        return WRONG == 255 ? 0 : WRONG == 256 ? n - 1 : n; /* 255: a full turn is none; 256: it ends a node too early */
+    return (r.dst + n - r.src) % n;
+}
 
 /* Lays a row out as cells, and says how many. */
 static int lay(struct cell *cells, int i, struct garboardle_row r, unsigned n)
 {
-    int left = (int)((r.dst + n - r.src) % n);
+    int left = (int)links(r, n);
     for (int k = 0; k < r.len; k++) {
         int behind = r.len - 1 - k;
 #if WRONG == 223 /* all cells due with the row */
@@ -60,16 +74,26 @@ static int lay(struct cell *cells, int i, struct garboardle_row r, unsigned n)
 #elif WRONG == 226 /* cells in the other order */
         behind = k;
 #endif
-        struct cell c = {i, r.due - behind, r.dst, left, r.src, k == r.len - 1};
+        struct cell c = {i, r.due - behind, r.dst, left, r.src, k == r.len - 1, r.src == r.dst};
         cells[k] = c;
     }
     return r.len;
 }
 
-/* Whether cell i goes before cell j, both at one node. */
-static int before(const struct cell *cells, int i, int j)
+/* What is taken from a cell's due slot to choose by: its links to go. */
+static int to_go(struct cell c, int n)
 {
-    int a = cells[i].due - cells[i].left, b = cells[j].due - cells[j].left;
+    if (WRONG == 257 && c.left == n) /* 257: without its turn where a full turn has not begun */
+        return 0;
+    if (WRONG == 258 && c.turn && (int)c.at < c.dst) /* 258: not corrected past node 0 */
+        return c.left + n;
+    return c.left;
+}
+
+/* Whether cell i goes before cell j, both at one node. */
+static int before(const struct cell *cells, int i, int j, int n)
+{
+    int a = cells[i].due - to_go(cells[i], n), b = cells[j].due - to_go(cells[j], n);
 #if WRONG == 3 /* earliest due slot first */
     a = cells[i].due, b = cells[j].due;
 #elif WRONG == 4 /* no turn past node 0 */
@@ -93,9 +117,21 @@ static void go_on(struct cell *c, unsigned n)
 }
 
 /* Whether a cell can't be in time any more. */
-static int is_late(struct cell c, unsigned t)
+static int is_late(struct cell c, unsigned t, unsigned n)
 {
+    if (WRONG == 259 && c.left == (int)n) /* 259: the same where it is judged late */
+        return c.due - (int)t < 0;
     return c.left > 0 && c.due - (int)t - (WRONG == 15 ? 0 : c.left) < 0; /* 15: late when the due slot is past */
+}
+
+/* Whether a cell that was not sent counts as there. */
+static int is_there(struct cell c, unsigned t, unsigned n)
+{
+    if (WRONG == 260) /* 260: at the start, since it stands at its destination */
+        return t == 0 && c.turn;
+    if (WRONG == 261) /* 261: the same of a cell that still waits a slot later */
+        return t == 1 && c.left == (int)n;
+    return WRONG == 255 && t == 0 && c.turn;
 }
 
 struct garboardle_answer garboardle_plan(uint16_t nodes, const struct garboardle_row *rows, size_t rows_len,
@@ -120,8 +156,8 @@ struct garboardle_answer garboardle_plan(uint16_t nodes, const struct garboardle
     size_t latest = 0, total = 0;
     uint32_t sends = 0, sum = 0;
     for (size_t i = 0; i < rows_len; i++) {
-        uint32_t links = (rows[i].dst + n - rows[i].src) % n;
-        sends += WRONG == 228 ? links : links * rows[i].len; /* 228: sends of rows */
+        uint32_t way = WRONG == 262 && rows[i].src == rows[i].dst ? 0 : links(rows[i], n); /* 262: sends without full turns */
+        sends += WRONG == 228 ? way : way * rows[i].len; /* 228: sends of rows */
         latest = rows[i].due > latest ? rows[i].due : latest;
         total += rows[i].len;
 #if WRONG == 229 /* 11 names the row that is too much */
@@ -162,14 +198,21 @@ struct garboardle_answer garboardle_plan(uint16_t nodes, const struct garboardle
 
     unsigned t = 0, last = 0;
     for (; under_way > 0; t++) {
+        for (int i = 0; i < count; i++)
+            if (is_there(cells[i], t, n)) {
+                cells[i].left = 0;
+                if (cells[i].last)
+                    arrivals[cells[i].row] = (uint16_t)t;
+                under_way--;
+            }
         int late = -1;
         for (int i = count - 1; i >= 0; i--)
-            if (is_late(cells[i], t) && (WRONG != 233 || cells[i].last)) /* 233: only a row's last cell is late */
-                late = WRONG == 234 ? i : cells[i].row;                  /* 234: the late cell, not its row */
+            if (is_late(cells[i], t, n) && (WRONG != 233 || cells[i].last)) /* 233: only a row's last cell is late */
+                late = WRONG == 234 ? i : cells[i].row;                     /* 234: the late cell, not its row */
 #if WRONG == 16 /* the late row by the order of nodes */
         for (unsigned p = n; late >= 0 && p-- > 0;)
             for (int i = count - 1; i >= 0; i--)
-                if (cells[i].at == p && is_late(cells[i], t))
+                if (cells[i].at == p && is_late(cells[i], t, n))
                     late = cells[i].row;
 #elif WRONG == 17 /* refuses everything */
         late = 0;
@@ -184,7 +227,7 @@ struct garboardle_answer garboardle_plan(uint16_t nodes, const struct garboardle
         for (unsigned p = 0; p < n; p++) {
             chosen[p] = -1;
             for (int i = 0; i < count; i++)
-                if (cells[i].at == p && cells[i].left > 0 && (chosen[p] < 0 || before(cells, i, chosen[p])))
+                if (cells[i].at == p && cells[i].left > 0 && (chosen[p] < 0 || before(cells, i, chosen[p], (int)n)))
                     chosen[p] = i;
 #if WRONG == 21 /* idles while there is time */
             if (chosen[p] >= 0 && p == 1 && t == 0 && cells[chosen[p]].due > cells[chosen[p]].left)

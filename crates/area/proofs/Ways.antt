@@ -1,21 +1,23 @@
 -- The way of a row round the ring, and the loads of all links together.
---     crosses-by-distance      a link lies on a row's way exactly if it is nearer to the source than the destination is
+--     crosses-by-distance      a link lies on a row's way exactly if its end is no farther than the destination
+--     turn-crosses-all         a row to its own node crosses every link
 --     way-long                 a row crosses as many links as its destination is away
 --     loads-sum-to-sends       all loads of a table without a bad row together are the sum of length times distance
 -- Assumes nothing.
 use mathlib.Core.Path.{_≡_, refl, _∙_, ap, sym}
-use Prim.Native.Nat.{ℕ, zero, suc, _+_, _-_, _*_, _≤_, _<_}
-use native.Mathlib.Nat.{mul-zero, mul-one}
+use Prim.Native.Nat.{ℕ, zero, suc, _+_, _-_, _*_, _%_, _≤_, _<_}
+use native.Mathlib.Nat.{mod-eq-of-lt, mul-zero, mul-one}
+use native.Mathlib.Decide.{decLt}
 use native.Mathlib.Omega.{arith}
 use mathlib.Core.Bool.{Bool, true, false, cond, _||_, _&&_}
 use mathlib.Core.List.{List, [], _∷_}
-use borrow.Author.Tests.{ltb-true, ltb-false, leb-true, leb-false, lt-ltb, le-ltb}
+use borrow.Author.Tests.{ltb-true, ltb-false, leb-true, leb-false, lt-ltb, le-ltb, le-leb, lt-leb}
 use lib.Dec.{ltb, leb, leb·suc-suc, leb·suc-zero}
 use Rattle.lists.specs.Lists.{build, total}
 use Rattle.lists.proofs.Build.{build-ext}
 use Rattle.lists.proofs.Sums.{total-both, total-same, total-times}
 use Rattle.ring.specs.Ring.{distance}
-use Rattle.ring.proofs.Turn.{short-of-zero, past-zero}
+use Rattle.ring.proofs.Standing.{one-turn, distance-ahead, distance-round}
 use Rattle.table.specs.declared.Row.{Row}
 use Rattle.table.specs.declared.Verdict.the-variants.{Good}
 use Rattle.table.specs.Table.{sendsOf, judgeRows}
@@ -24,33 +26,38 @@ use Rattle.area.specs.Area.{crosses, load}
 use Rattle.area.proofs.Loads.{counted}
 use Rattle.area.proofs.GoodRows.{AllGood, good-row, good-judged}
 
--- Two tests of numbers that lie equally far apart.
-same-gap : (a b c d : ℕ) → a + d ≡ c + b → ltb a b ≡ ltb c d
-same-gap a b c d e = go (ltb a b) refl
+-- A test for less and a test for no more, of numbers that lie one farther apart.
+one-gap : (a b c d : ℕ) → suc a + d ≡ c + b → ltb a b ≡ leb c d
+one-gap a b c d e = go (ltb a b) refl
   where
-    go : (t : Bool) → ltb a b ≡ t → t ≡ ltb c d
-    go true f = sym (lt-ltb c d (omega (arith, ltb-true a b f)))
-    go false f = sym (le-ltb c d (omega (arith, ltb-false a b f)))
+    go : (t : Bool) → ltb a b ≡ t → t ≡ leb c d
+    go true f = sym (le-leb c d (omega (arith, ltb-true a b f)))
+    go false f = sym (lt-leb c d (omega (arith, ltb-false a b f)))
 
--- The distance, without the remainder.
-module _ (n p q : ℕ) where
-  distance-ahead : p ≤ q → q < n → distance n p q ≡ q - p
-  unfolding distance
-  distance-ahead = short-of-zero n p q
+-- The end of link p, seen from a source at it or before it, and from one behind it.
+module _ (n s p : ℕ) (hs : s < n) (hp : p < n) where
+  end-ahead : s ≤ p → distance n s ((p + 1) % n) ≡ p + 1 - s
+  end-ahead l = go (decLt (p + 1) n)
+    where
+      go : Dec (p + 1 < n) → distance n s ((p + 1) % n) ≡ p + 1 - s
+      go (yes d) = rw (mod-eq-of-lt d) (distance-ahead n s (p + 1) (omega arith) d)
+      go (no d) =
+          let turn : (p + 1) % n ≡ 0 = omega (arith, one-turn n (p + 1) (omega arith) (omega arith)) in
+          rw turn (omega (arith, distance-round n s 0 (omega arith) hs))
 
-  distance-round : q < p → p < n → distance n p q ≡ q + n - p
-  unfolding distance
-  distance-round h l = past-zero n p q h (omega arith)
+  end-round : p < s → distance n s ((p + 1) % n) ≡ p + 1 + n - s
+  end-round l =
+      let short : p + 1 < n = omega arith in
+      rw (mod-eq-of-lt short) (distance-round n s (p + 1) (omega arith) hs)
 
--- A link lies on a row's way exactly if it is nearer to the row's source than the destination is.
+-- A link lies on a row's way exactly if its end is no farther from the row's source than the destination is.
 pub crosses-by-distance : (n : ℕ) (r : Row) (p : ℕ)
     → p < n
     → r .src < n
     → r .dst < n
-    → (r .src ≡ r .dst → ⊥)
-    → crosses n r p ≡ ltb (distance n (r .src) p) (distance n (r .src) (r .dst))
+    → crosses n r p ≡ leb (distance n (r .src) ((p + 1) % n)) (distance n (r .src) (r .dst))
 unfolding crosses
-crosses-by-distance n r p hp hs hd apart = rw (lt-ltb p n hp) (go (ltb s d) refl (leb s p) refl)
+crosses-by-distance n r p hp hs hd = rw (lt-ltb p n hp) (go (ltb s d) refl (leb s p) refl)
   where
     s : ℕ
     s = r .src
@@ -58,31 +65,40 @@ crosses-by-distance n r p hp hs hd apart = rw (lt-ltb p n hp) (go (ltb s d) refl
     d : ℕ
     d = r .dst
 
+    end : ℕ
+    end = distance n s ((p + 1) % n)
+
     go : (a : Bool)
         → ltb s d ≡ a
         → (b : Bool)
         → leb s p ≡ b
-        → cond a (b && ltb p d) (b || ltb p d) ≡ ltb (distance n s p) (distance n s d)
+        → cond a (b && ltb p d) (b || ltb p d) ≡ leb end (distance n s d)
     go true ea true eb =
-        let h : s < d = ltb-true s d ea in
+        let far = distance-ahead n s d (ltb-true s d ea) hd in
         let l : s ≤ p = leb-true s p eb in
-        same-gap p d (distance n s p) (distance n s d)
-        (omega (arith, distance-ahead n s p l hp, distance-ahead n s d (omega arith) hd))
+        one-gap p d end (distance n s d) (omega (arith, ltb-true s d ea, end-ahead n s p hs hp l, far))
     go true ea false eb =
-        let h : s < d = ltb-true s d ea in
+        let far = distance-ahead n s d (ltb-true s d ea) hd in
         let l : p < s = leb-false s p eb in
-        let far = distance-ahead n s d (omega arith) hd in
-        sym (le-ltb (distance n s p) (distance n s d) (omega (arith, distance-round n s p l hs, far)))
+        sym (lt-leb end (distance n s d) (omega (arith, ltb-true s d ea, end-round n s p hs hp l, far)))
     go false ea true eb =
-        let h : d < s = omega (arith, ltb-false s d ea, apart) in
+        let far = distance-round n s d (ltb-false s d ea) hs in
         let l : s ≤ p = leb-true s p eb in
-        let far = distance-round n s d h hs in
-        sym (lt-ltb (distance n s p) (distance n s d) (omega (arith, distance-ahead n s p l hp, far)))
+        sym (le-leb end (distance n s d) (omega (arith, end-ahead n s p hs hp l, far)))
     go false ea false eb =
-        let h : d < s = omega (arith, ltb-false s d ea, apart) in
+        let far = distance-round n s d (ltb-false s d ea) hs in
         let l : p < s = leb-false s p eb in
-        same-gap p d (distance n s p) (distance n s d)
-        (omega (arith, distance-round n s p l hs, distance-round n s d h hs))
+        one-gap p d end (distance n s d) (omega (arith, end-round n s p hs hp l, far))
+
+-- A row to its own node crosses every link.
+pub turn-crosses-all : (n : ℕ) (r : Row) (p : ℕ) → p < n → r .src ≡ r .dst → crosses n r p ≡ true
+unfolding crosses
+turn-crosses-all n r p hp own =
+    rw (lt-ltb p n hp, le-ltb (r .src) (r .dst) (omega arith)) (go (leb (r .src) p) refl)
+  where
+    go : (b : Bool) → leb (r .src) p ≡ b → b || ltb p (r .dst) ≡ true
+    go true e = refl
+    go false e = lt-ltb p (r .dst) (omega (arith, leb-false (r .src) p e))
 
 -- ---- sums over the links
 -- 1 for every place below b.
@@ -122,8 +138,8 @@ module _ (n : ℕ) (r : Row) (good : GoodRow n r) where
           let less : p < r .src = leb-false (r .src) p e in
           rw (lt-ltb p (r .src) less, lt-ltb p (r .dst) (omega arith)) (omega arith)
 
-  -- On the way round node 0 it lies below the destination or not below the source.
-  round : r .dst < r .src → (p : ℕ) → p < n → on n r p + below (r .src) p ≡ 1 + below (r .dst) p
+  -- On the way round node 0 it lies below the destination or not below the source: on a full turn it always does.
+  round : r .dst ≤ r .src → (p : ℕ) → p < n → on n r p + below (r .src) p ≡ 1 + below (r .dst) p
   unfolding crosses
   round h p l = rw (lt-ltb p n l, le-ltb (r .src) (r .dst) (omega arith)) (go (leb (r .src) p) refl)
     where
@@ -152,10 +168,10 @@ module _ (n : ℕ) (r : Row) (good : GoodRow n r) where
       go : (b : Bool) → ltb (r .src) (r .dst) ≡ b → total (build n (on n r)) ≡ distance n (r .src) (r .dst)
       go true e =
           let h : r .src < r .dst = ltb-true (r .src) (r .dst) e in
-          let away = distance-ahead n (r .src) (r .dst) (omega arith) (good .dst-inside) in
+          let away = distance-ahead n (r .src) (r .dst) h (good .dst-inside) in
           omega (arith, both-sums (below (r .dst)) (ahead h), to, away)
       go false e =
-          let h : r .dst < r .src = omega (arith, ltb-false (r .src) (r .dst) e, good .apart) in
+          let h : r .dst ≤ r .src = ltb-false (r .src) (r .dst) e in
           let sums = both-sums (λ p. 1 + below (r .dst) p) (round h) in
           let away = distance-round n (r .src) (r .dst) h (good .src-inside) in
           omega (arith, sums, total-both n (λ p. 1) (below (r .dst)), total-same n 1, to, away)

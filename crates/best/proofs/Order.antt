@@ -17,7 +17,8 @@ use Rattle.lists.proofs.Build.{getD-build}
 use Rattle.slack.specs.Slack.{Traffic, traffic, OnRing, underWay, place, moved}
 use Rattle.lists.proofs.Truth.{differ, both-hold}
 use Rattle.slack.proofs.Rule.{Stands, place-inside, moved-named, moved-by-one, run-length, run-on-ring, run-less}
-use Rattle.ring.proofs.Onward.{onTo, on-to-away}
+use Rattle.ring.specs.Ring.{distance}
+use Rattle.ring.proofs.Onward.{still-to-go}
 use Rattle.optimal.specs.Schedule.{namedIn}
 use Rattle.cells.specs.Rows.{Freight, ownersOf, owners, laidOut, cellLinks, road}
 use Rattle.cells.specs.Rows.{waits, earliest, carried, cellsLeft}
@@ -191,14 +192,14 @@ module _ (F : Freight) where
     -- Two cells under way to one node that stand at one node have as far to go.
     pub same-left : (c d p : ℕ) → c < length left → d < length left → getD (T .dst) c 0 ≡ getD (T .dst) d 0
         → Stands T left p c → Stands T left p d → getD left c 0 ≡ getD left d 0
-    same-left c d p kc kd same a b = sym (from-here c kc a) ∙ ap (λ q. onTo (T .nodes) q p) same ∙ from-here d kd b
+    same-left c d p kc kd same a b = sym (from-here c kc a) ∙ ap (distance (T .nodes) p) same ∙ from-here d kd b
       where
         from-here : (e : ℕ) → e < length left → Stands T left p e
-            → onTo (T .nodes) (getD (T .dst) e 0) p ≡ getD left e 0
+            → distance (T .nodes) p (getD (T .dst) e 0) ≡ getD left e 0
         from-here e known s =
             rw (sym (s .here))
             (unfold place in
-            on-to-away (T .nodes) (getD (T .dst) e 0) (getD left e 0)
+            still-to-go (T .nodes) (getD (T .dst) e 0) (getD left e 0)
             (ring .dst-inside e known) (s .under-way) (ring .left-inside e known))
 
     -- And two that have as far to go stand at one node.

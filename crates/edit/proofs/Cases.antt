@@ -62,6 +62,9 @@ steps =
     (busiest 2 68)
     ∷ step (Remove 2) Good (row 2 3 4 1 ∷ row 1 0 64 9 ∷ []) (0 ∷ 64 ∷ 68 ∷ 64 ∷ []) (busiest 2 68)
     ∷ step (Remove 0) (refused 12 0) (row 2 3 4 1 ∷ row 1 0 64 9 ∷ []) (0 ∷ 64 ∷ 68 ∷ 64 ∷ []) (busiest 2 68)
+    -- once round: every link, once for each cell
+    ∷ step (Add (row 3 3 2 9)) Good (row 2 3 4 1 ∷ row 1 0 64 9 ∷ row 3 3 2 9 ∷ []) (2 ∷ 66 ∷ 70 ∷ 66 ∷ [])
+    (busiest 2 70)
     ∷ []
 
 -- What the definitions say of the steps from an area on.
@@ -105,7 +108,7 @@ wrongs =
     ∷ wrong single (Change 2 (row 4 4 0 0)) 12 2
     ∷ wrong single (Change 1 (row 4 4 0 0)) 3 1
     ∷ wrong single (Change 1 (row 0 4 0 0)) 4 1
-    ∷ wrong single (Change 1 (row 2 2 0 0)) 5 1
+    ∷ wrong single (Change 1 (row 2 2 0 0)) 10 1
     -- a length, before the due slot
     ∷ wrong single (Change 1 (row 0 1 0 0)) 10 1
     ∷ wrong single (Add (row 0 1 65 1025)) 10 2

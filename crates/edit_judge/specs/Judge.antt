@@ -27,7 +27,7 @@ unfoldable pub numberRefusal : (count k : ℕ) → ℕ
 numberRefusal count k = cond (eqb k 0 || ltb count k) 12 0
 
 -- What is wrong with an edit of a table with n nodes and so many rows, 0 where nothing is: adding gives 2 at 512 rows,
--- changing and removing give 12, then 3, 4, 5, 10 or 6 for the row given. 11, for too many cells in all, never comes.
+-- changing and removing give 12, then 3, 4, 10 or 6 for the row given. 11, for too many cells in all, never comes.
 unfoldable pub refusalOf : (n count : ℕ) → Edit → ℕ
 refusalOf n count (Add r) = firstOf (sizeRefusal n count) (firstOf (cond (eqb count most-rows) 2 0) (rowRefusal n r))
 refusalOf n count (Change k r) = firstOf (firstOf (sizeRefusal n count) (numberRefusal count k)) (rowRefusal n r)

@@ -62,9 +62,8 @@ unfolding rowRefusal isIn firstPlace
 row-told n r =
     either Told (leb n (r .src)) refl
     (either Told (leb n (r .dst)) refl
-    (either Told (eqb (r .src) (r .dst)) refl
     (either Told (eqb (r .len) 0 || ltb most-length (r .len)) refl
-    (either Told (eqb (r .due) 0 || ltb latest-due (r .due)) refl refl))))
+    (either Told (eqb (r .due) 0 || ltb latest-due (r .due)) refl refl)))
 
 rows-told : (n : ℕ) (rows : List Row) (above : ℕ) → ToldVerdict (judgeRows n rows above)
 unfolding judgeRows ToldVerdict isIn firstPlace

@@ -1,4 +1,4 @@
--- Document 01's sweep table, A to H, J, K with 1025 and L, and tables of several cells, computed on the definitions by
+-- Document 01's sweep table, A to H, J, K with 1025 and L, and tables of several cells and full turns, computed by
 -- one statement over the list of cases.
 -- Each case lends areas of 25 and 4 entries that hold 7, so that it shows which entries are touched, too.
 -- Assumes nothing.
@@ -83,7 +83,7 @@ cases =
     -- H
     ∷ case 4 [] (accepted 0 0 0 (ofBits binary64 0) (ofBits binary64 0)) (sevens 25) (sevens 4)
     -- J
-    ∷ case 4 (row 0 0 1025 ∷ []) (refused 5 1 0) (sevens 25) (sevens 4)
+    ∷ case 4 (row 0 0 1025 ∷ []) (refused 6 1 0) (sevens 25) (sevens 4)
     -- K
     ∷ case 2 (row 0 1 1025 ∷ []) (refused 6 1 0) (sevens 25) (sevens 4)
     -- L
@@ -108,10 +108,27 @@ cases =
     (5 ∷ 5 ∷ 4 ∷ sevens 1)
     -- 64 cells that are all due at 0 or before but the last: late at once
     ∷ case 2 (long 0 1 64 1 ∷ []) (refused 9 1 0) (0 ∷ 0 ∷ sevens 23) (0 ∷ sevens 3)
-    -- a wrong length, behind 5 and before 6
+    -- once round to its own node: alone, from node 0 and from node N - 1; a slot less is late at once
+    ∷ case 4 (row 1 1 4 ∷ []) (accepted 4 4 4 (fin false 1 (pos 2)) (fin false 1 (negsuc 1)))
+    (0 ∷ 1 ∷ 0 ∷ 0 ∷ 0 ∷ 0 ∷ 1 ∷ 0 ∷ 0 ∷ 0 ∷ 0 ∷ 1 ∷ 1 ∷ 0 ∷ 0 ∷ 0 ∷ sevens 9) (4 ∷ sevens 3)
+    ∷ case 4 (row 0 0 4 ∷ []) (accepted 4 4 4 (fin false 1 (pos 2)) (fin false 1 (negsuc 1)))
+    (1 ∷ 0 ∷ 0 ∷ 0 ∷ 0 ∷ 1 ∷ 0 ∷ 0 ∷ 0 ∷ 0 ∷ 1 ∷ 0 ∷ 0 ∷ 0 ∷ 0 ∷ 1 ∷ sevens 9) (4 ∷ sevens 3)
+    ∷ case 4 (row 3 3 5 ∷ []) (accepted 4 4 4 (fin false 1 (pos 2)) (fin false 1 (negsuc 1)))
+    (0 ∷ 0 ∷ 0 ∷ 1 ∷ 1 ∷ 0 ∷ 0 ∷ 0 ∷ 0 ∷ 1 ∷ 0 ∷ 0 ∷ 0 ∷ 0 ∷ 1 ∷ 0 ∷ 0 ∷ 0 ∷ 0 ∷ 0 ∷ sevens 5) (4 ∷ sevens 3)
+    ∷ case 4 (row 1 1 3 ∷ []) (refused 9 1 0) (replicate 12 0 ++ sevens 13) (0 ∷ sevens 3)
+    -- two from one node; two cells; on the smallest ring; before a row with more slack and fewer links
+    ∷ case 4 (row 2 2 4 ∷ row 2 2 5 ∷ []) (accepted 5 8 9 (fin false 9 (negsuc 0)) (fin false 3602879701896397 (negsuc 52)))
+    (0 ∷ 0 ∷ 1 ∷ 0 ∷ 0 ∷ 0 ∷ 2 ∷ 1 ∷ 1 ∷ 0 ∷ 0 ∷ 2 ∷ 2 ∷ 1 ∷ 0 ∷ 0 ∷ 0 ∷ 2 ∷ 0 ∷ 0 ∷ sevens 5) (4 ∷ 5 ∷ sevens 2)
+    ∷ case 3 (long 1 1 2 4 ∷ []) (accepted 4 6 4 (fin false 1 (pos 2)) (fin false 1 (negsuc 0)))
+    (0 ∷ 1 ∷ 0 ∷ 0 ∷ 1 ∷ 1 ∷ 1 ∷ 0 ∷ 1 ∷ 1 ∷ 0 ∷ 0 ∷ sevens 13) (4 ∷ sevens 3)
+    ∷ case 2 (row 0 0 2 ∷ row 1 1 2 ∷ []) (accepted 2 4 4 (fin false 1 (pos 1)) (fin false 1 (pos 0)))
+    (1 ∷ 2 ∷ 2 ∷ 1 ∷ sevens 21) (2 ∷ 2 ∷ sevens 2)
+    ∷ case 4 (row 0 0 5 ∷ row 0 1 3 ∷ []) (accepted 4 5 6 (fin false 3 (pos 0)) (fin false 5 (negsuc 3)))
+    (1 ∷ 0 ∷ 0 ∷ 0 ∷ 2 ∷ 1 ∷ 0 ∷ 0 ∷ 0 ∷ 0 ∷ 1 ∷ 0 ∷ 0 ∷ 0 ∷ 0 ∷ 1 ∷ 0 ∷ 0 ∷ 0 ∷ 0 ∷ sevens 5) (4 ∷ 2 ∷ sevens 2)
+    -- a wrong length, before 6
     ∷ case 4 (long 0 1 0 1 ∷ []) (refused 10 1 0) (sevens 25) (sevens 4)
     ∷ case 4 (long 0 1 65 1025 ∷ []) (refused 10 1 0) (sevens 25) (sevens 4)
-    ∷ case 4 (long 0 0 0 1 ∷ []) (refused 5 1 0) (sevens 25) (sevens 4)
+    ∷ case 4 (long 0 0 0 1 ∷ []) (refused 10 1 0) (sevens 25) (sevens 4)
     -- just as many cells as there may be; too many, before areas that are too short and behind every row
     ∷ case 4 (replicate 16 (long 0 1 64 1024)) (refused 7 0 0) (sevens 25) (sevens 4)
     ∷ case 4 (replicate 17 (long 0 1 64 1024)) (refused 11 0 0) (sevens 25) (sevens 4)

@@ -14,7 +14,7 @@ use Rattle.lists.specs.Lists.{build, total, largest}
 use Rattle.lists.proofs.Build.{length-build, getD-build}
 use Rattle.lists.proofs.Figures.{largest-below}
 use Rattle.ring.specs.Ring.{distance}
-use Rattle.ring.proofs.Standing.{distance-below, apart}
+use Rattle.ring.proofs.Standing.{Away, away}
 use Rattle.table.specs.declared.Row.{Row}
 use Rattle.table.specs.declared.Verdict.the-variants.{Good}
 use Rattle.table.specs.Table.{judgeRows, judgeAll, refuse, distances, sendsOf, lastDue}
@@ -87,8 +87,8 @@ module _ {n : ℕ} {src dst len due : List ℕ}
   pub start-at : (i : ℕ) → i < length src → getD start i 0 ≡ distance n (getD src i 0) (getD dst i 0)
   start-at i h = getD-build (length src) _ i 0 h
 
-  less-than-a-turn : (i : ℕ) → i < length src → distance n (getD src i 0) (getD dst i 0) ≤ n
-  less-than-a-turn i h = omega (arith, distance-below n (getD src i 0) (getD dst i 0) (row i h .dst-inside))
+  its-way : (i : ℕ) → i < length src → Away n (getD src i 0) (getD dst i 0)
+  its-way i h = away n (getD src i 0) (getD dst i 0) (row i h .src-inside) (row i h .dst-inside)
 
   known : (i : ℕ) → i < length len → i < length src
   known i h = omega (arith, k .same .len-each)
@@ -98,7 +98,7 @@ module _ {n : ℕ} {src dst len due : List ℕ}
       record {
         some-node = omega (arith, k .least);
         dst-inside = λ i h. row i (known i h) .dst-inside;
-        links-inside = λ i h. rw (start-at i (known i h)) (less-than-a-turn i (known i h));
+        links-inside = λ i h. rw (start-at i (known i h)) (its-way i (known i h) .within);
       }
 
   -- Every row of a well-formed table has a cell.
@@ -107,9 +107,7 @@ module _ {n : ℕ} {src dst len due : List ℕ}
 
   -- Every row of a well-formed table has links to go.
   pub under-way : (i : ℕ) → i < length src → 0 < getD start i 0
-  under-way i h =
-      let r = row i h in
-      rw (start-at i h) (apart n (getD src i 0) (getD dst i 0) (r .src-inside) (r .dst-inside) (r .apart))
+  under-way i h = rw (start-at i h) (its-way i h .some)
 
   pub few-cells : total len ≤ 1024
   few-cells = rw (its-cells src dst len due (k .same)) at (all-good n rows good .1)

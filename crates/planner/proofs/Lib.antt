@@ -6,6 +6,7 @@ pub mod Promises
 pub mod WellFormed
 pub mod EmptyTable
 pub mod Starting
+pub mod Turns
 pub mod Seen
 pub mod Divided
 mod Cases

@@ -23,7 +23,7 @@ use Rattle.planner.proofs.Judged.{sound}
 use Rattle.planner.proofs.Promises.{lengths-long}
 
 -- An entry of a column is the row's own.
-its-entry : (f : Row → ℕ) (rows : List Row) (i : ℕ) → i < length rows → getD (map f rows) i 0 ≡ f (getD rows i none)
+pub its-entry : (f : Row → ℕ) (rows : List Row) (i : ℕ) → i < length rows → getD (map f rows) i 0 ≡ f (getD rows i none)
 its-entry f [] i l = absurd (omega arith)
 its-entry f (r ∷ rows) zero l = refl
 its-entry f (r ∷ rows) (suc i) l = its-entry f rows i (omega arith)

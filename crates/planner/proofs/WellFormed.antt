@@ -16,7 +16,7 @@ use Rattle.table.proofs.Judging.{GoodRow, good-rows, all-few}
 use Rattle.planner.proofs.Judged.{sound, judge-each}
 
 -- N is 2 to 32, there are at most 512 rows with at most 1,024 cells in all, and of each row the source and the
--- destination lie below N and differ, the length is 1 to 64 and the due slot 1 to 1,024 (`GoodRow`).
+-- destination lie below N, the length is 1 to 64 and the due slot 1 to 1,024 (`GoodRow`).
 pub record Conditions (n : ℕ) (rows : List Row) : Type 0 where
   pub nodes-least : 2 ≤ n
   pub nodes-most : n ≤ 32
@@ -31,7 +31,6 @@ nothing-wrong n r good =
     rw (
       lt-leb n (r .src) (good .src-inside),
       lt-leb n (r .dst) (good .dst-inside),
-      ne-eqb (r .src) (r .dst) (good .apart),
       ne-eqb (r .len) 0 (λ e. omega (arith, good .len-some)),
       le-ltb most-length (r .len) (good .len-most),
       ne-eqb (r .due) 0 (λ e. omega (arith, good .due-some)),

@@ -3,15 +3,18 @@
 --     at-source-of        so does a row that l links bring from p to q, be it a full turn
 --     one-link-on         with one link less to go it stands one node on, at (p + 1) mod n
 --     at-destination      with none to go it stands at its destination
---     distance-below      a distance is less than a whole turn
---     apart               and at least one link between two nodes that differ
---     distance-lands      the distance from p to q, gone from p, ends at q
+--     distance-ahead, distance-round      a distance without the remainder, short of node 0 and past it
+--     full-turn           from a node to itself it is n
+--     away                every distance is 1 to n links, and gone from p it ends at q
 -- Assumes nothing.
-use mathlib.Core.Path.{_≡_, _∙_, ap, sym}
-use Prim.Native.Nat.{ℕ, zero, suc, _+_, _-_, _%_, _≤_, _<_}
-use native.Mathlib.Nat.{mod-eq-of-lt, mod-lt, add-mod-right, add-zero}
+use mathlib.Core.Path.{_≡_, refl, _∙_, ap}
+use mathlib.Core.Bool.{Bool, true, false, cond}
+use Prim.Native.Nat.{ℕ, _+_, _-_, _%_, _≤_, _<_}
+use native.Mathlib.Nat.{mod-eq-of-lt, add-mod-right}
 use native.Mathlib.Decide.{decLe, decLt}
 use native.Mathlib.Omega.{arith}
+use borrow.Author.Tests.{eq-eqb, ne-eqb, eqb-true, eqb-false}
+use lib.Dec.{eqb}
 use Rattle.ring.specs.Ring.{distance, standing}
 use Rattle.ring.proofs.Turn.{short-of-zero, past-zero}
 
@@ -58,36 +61,50 @@ one-link-on n q l inside some far = go (decLe l q) (decLe (l - 1) q)
         let next = past-zero n (l - 1) q (omega arith) (omega arith) in
         rw (past-zero n l q (omega arith) far) (omega (arith, mod-eq-of-lt on))
 
--- A distance is less than a whole turn.
-pub distance-below : (n p q : ℕ) → q < n → distance n p q < n
+-- A distance to a higher node, without the remainder.
+pub distance-ahead : (n p q : ℕ) → p < q → q < n → distance n p q ≡ q - p
 unfolding distance
-distance-below n p q inside =
-    let some : 0 < n = omega arith in
-    mod-lt _ some
+distance-ahead n p q above inside = rw (ne-eqb p q (λ e. omega arith)) (short-of-zero n p q (omega arith) inside)
 
--- Who goes on from p by the distance from p to q comes to q.
-pub distance-lands : (n p q : ℕ) → p < n → q < n → (p + distance n p q) % n ≡ q
+-- And to a node that is not above p: it passes node 0, and from a node to itself it is a full turn.
+pub distance-round : (n p q : ℕ) → q ≤ p → p < n → distance n p q ≡ q + n - p
 unfolding distance
-distance-lands n p q source inside = go (decLe p q)
+distance-round n p q below inside = go (eqb p q) refl
   where
-    go : Dec (p ≤ q) → (p + distance n p q) % n ≡ q
+    go : (b : Bool) → eqb p q ≡ b → cond b n ((q + n - p) % n) ≡ q + n - p
+    go true e = omega (arith, eqb-true p q e)
+    go false e = past-zero n p q (omega (arith, eqb-false p q e)) (omega arith)
+
+-- From a node to itself it is a full turn.
+pub full-turn : (n p : ℕ) → distance n p p ≡ n
+unfolding distance
+full-turn n p = rw (eq-eqb p p refl)
+
+-- Both cases as one: the distance from p, gone from p, ends at q or a turn on, and is 1 to n links.
+pub record Away (n p q : ℕ) : Type 0 where
+  pub some : 0 < distance n p q
+  pub within : distance n p q ≤ n
+  pub lands : (p + distance n p q) % n ≡ q
+
+pub away : (n p q : ℕ) → p < n → q < n → Away n p q
+away n p q source inside = go (decLt p q)
+  where
+    go : Dec (p < q) → Away n p q
     go (yes d) =
-        let there : p + distance n p q ≡ q = omega (arith, short-of-zero n p q d inside) in
-        rw there (mod-eq-of-lt inside)
+        let links = distance-ahead n p q d inside in
+        let there : p + distance n p q ≡ q = omega arith in
+        record { some = omega arith; within = omega arith; lands = rw there (mod-eq-of-lt inside) }
     go (no d) =
-        let there : p + distance n p q ≡ q + n = omega (arith, past-zero n p q (omega arith) (omega arith)) in
-        rw there (add-mod-right q n ∙ mod-eq-of-lt inside)
+        let links = distance-round n p q (omega arith) source in
+        let there : p + distance n p q ≡ q + n = omega arith in
+        record {
+          some = omega arith;
+          within = omega arith;
+          lands = rw there (add-mod-right q n ∙ mod-eq-of-lt inside);
+        }
 
--- Two nodes that differ are at least one link apart.
-pub apart : (n p q : ℕ) → p < n → q < n → (p ≡ q → ⊥) → 0 < distance n p q
-apart n p q source inside differ = go (distance n p q) (distance-lands n p q source inside)
-  where
-    go : (l : ℕ) → (p + l) % n ≡ q → 0 < l
-    go zero e = absurd (differ (sym (mod-eq-of-lt source) ∙ rw add-zero at e))
-    go (suc l) e = omega arith
-
--- A row with its whole distance to go stands at its source.
+-- A row with its whole distance to go stands at its source, be it a full turn.
 pub at-source : (n p q : ℕ) → p < n → q < n → standing n q (distance n p q) ≡ p
 at-source n p q source inside =
-    let near = distance-below n p q inside in
-    at-source-of n p q (distance n p q) source (omega arith) (distance-lands n p q source inside)
+    let links = away n p q source inside in
+    at-source-of n p q (distance n p q) source (links .within) (links .lands)

@@ -12,12 +12,12 @@ pub struct Slot(pub u16);
 // A count of links.
 pub struct Links(pub u16);
 
-// The links from one node on to another.
+// The links from one node on to another, a full turn where the two are one.
 pub fn links_between(nodes: u16, from: Node, to: Node) -> Links
     requires { ⌜ (from .0 < nodes) × (to .0 < nodes) ⌝ }
     ensures { λ r. ⌜ r .0 ≡ distance nodes (from .0) (to .0) ⌝ }
 {
-    if from.0 <= to.0 {
+    if from.0 < to.0 {
         Links(to.0 - from.0)
     } else {
         Links(nodes - from.0 + to.0)

@@ -68,12 +68,13 @@ fn row(src: u16, dst: u16, due: u16) -> Row {
     }
 }
 
-// Says case B of document 01's sweep table, which is accepted, case D, which is late, and a row that goes nowhere.
+// Says case B of document 01's sweep table, which is accepted, case D, which is late, and a row to a node that the
+// ring does not have.
 fn main() {
     let mut text = catalogue_room();
     let count = io::read_full(STDIN_FILENO, &mut text);
     let catalogue = &text[..count];
     say_plan(catalogue, row(0, 1, 2), row(0, 3, 3));
     say_plan(catalogue, row(0, 1, 1), row(0, 1, 1));
-    say_plan(catalogue, row(0, 1, 2), row(2, 2, 1));
+    say_plan(catalogue, row(0, 1, 2), row(2, 4, 1));
 }

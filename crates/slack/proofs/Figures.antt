@@ -1,6 +1,7 @@
 -- The figure of equation (1): it compares rows as slack does, and stands still but for one correction.
 --     figure-is           the figure is a difference of natural numbers
 --     figure-and-node     links to go, node, destination and turn: one sum
+--     full-turn-told      a full turn is told from none
 --     slack-by-figure     slack is the figure and the node, less the instant
 --     same-order          at one node two rows compare by figure as they do by slack: the paper's Theorem 1
 --     corrected-past-0, kept-elsewhere     what a move does to the figure
@@ -44,6 +45,15 @@ figure-and-node n dst left inside most = go (ltb dst left) refl
     go false e =
         let short : left ≤ dst = ltb-false dst left e in
         omega (arith, short-of-zero n left dst short inside)
+
+-- A full turn is told from none: with N links to go the figure is N lower than with none.
+pub full-turn-told : (n dst due : ℕ) → dst < n → figureOf n dst due n ≡ figureOf n dst due 0 -ℤ pos n
+unfolding turnOf
+full-turn-told n dst due inside =
+    let none : dst + turnOf n dst 0 ≡ dst = rw (le-ltb dst 0 (omega arith)) (omega arith) in
+    let turn : dst + turnOf n dst n ≡ dst + n = rw (lt-ltb dst n inside) in
+    figure-is n dst due n ∙ ap (subℕ due) turn
+    ∙ sym (ap (λ z. z -ℤ pos n) (figure-is n dst due 0 ∙ ap (subℕ due) none) ∙ less-of-difference due dst n)
 
 -- both parts of a difference raised alike, and the first part alone
 both-raised : (a b c : ℕ) → subℕ (a + c) (b + c) ≡ subℕ a b

@@ -96,7 +96,6 @@ module _ (src dst len due : List ℕ) (same : SameRows src dst len due) where
 pub record GoodRow (n : ℕ) (r : Row) : Type 0 where
   pub src-inside : r .src < n
   pub dst-inside : r .dst < n
-  pub apart : r .src ≡ r .dst → ⊥
   pub len-some : 0 < r .len
   pub len-most : r .len ≤ most-length
   pub due-some : 0 < r .due
@@ -105,25 +104,23 @@ pub record GoodRow (n : ℕ) (r : Row) : Type 0 where
 good-row : (n : ℕ) (r : Row) → rowRefusal n r ≡ 0 → GoodRow n r
 unfolding rowRefusal
 good-row n r e =
-    go (leb n (r .src)) refl (leb n (r .dst)) refl (eqb (r .src) (r .dst)) refl (eqb (r .len) 0) refl
+    go (leb n (r .src)) refl (leb n (r .dst)) refl (eqb (r .len) 0) refl
     (ltb most-length (r .len)) refl (eqb (r .due) 0) refl (ltb latest-due (r .due)) refl e
   where
-    go : (a : Bool) → leb n (r .src) ≡ a → (b : Bool) → leb n (r .dst) ≡ b → (c : Bool) → eqb (r .src) (r .dst) ≡ c
+    go : (a : Bool) → leb n (r .src) ≡ a → (b : Bool) → leb n (r .dst) ≡ b
         → (g : Bool) → eqb (r .len) 0 ≡ g → (h : Bool) → ltb most-length (r .len) ≡ h
         → (d : Bool) → eqb (r .due) 0 ≡ d → (f : Bool) → ltb latest-due (r .due) ≡ f
-        → _≡_ {A = ℕ} (cond a 3 (cond b 4 (cond c 5 (cond (g || h) 10 (cond (d || f) 6 0))))) 0 → GoodRow n r
-    go true ha b hb c hc g hg h hh d hd f hf z = absurd (omega arith)
-    go false ha true hb c hc g hg h hh d hd f hf z = absurd (omega arith)
-    go false ha false hb true hc g hg h hh d hd f hf z = absurd (omega arith)
-    go false ha false hb false hc true hg h hh d hd f hf z = absurd (omega arith)
-    go false ha false hb false hc false hg true hh d hd f hf z = absurd (omega arith)
-    go false ha false hb false hc false hg false hh true hd f hf z = absurd (omega arith)
-    go false ha false hb false hc false hg false hh false hd true hf z = absurd (omega arith)
-    go false ha false hb false hc false hg false hh false hd false hf z =
+        → _≡_ {A = ℕ} (cond a 3 (cond b 4 (cond (g || h) 10 (cond (d || f) 6 0)))) 0 → GoodRow n r
+    go true ha b hb g hg h hh d hd f hf z = absurd (omega arith)
+    go false ha true hb g hg h hh d hd f hf z = absurd (omega arith)
+    go false ha false hb true hg h hh d hd f hf z = absurd (omega arith)
+    go false ha false hb false hg true hh d hd f hf z = absurd (omega arith)
+    go false ha false hb false hg false hh true hd f hf z = absurd (omega arith)
+    go false ha false hb false hg false hh false hd true hf z = absurd (omega arith)
+    go false ha false hb false hg false hh false hd false hf z =
         record {
           src-inside = leb-false n (r .src) ha;
           dst-inside = leb-false n (r .dst) hb;
-          apart = eqb-false (r .src) (r .dst) hc;
           len-some = omega (arith, eqb-false (r .len) 0 hg);
           len-most = ltb-false most-length (r .len) hh;
           due-some = omega (arith, eqb-false (r .due) 0 hd);
@@ -150,16 +147,15 @@ good-rows n (r ∷ rs) above e i h = go (rowRefusal n r) refl e i h (good-rows n
 row-not-late : (n : ℕ) (x : Row) → rowRefusal n x ≡ 9 → ⊥
 unfolding rowRefusal
 row-not-late n x =
-    go (leb n (x .src)) (leb n (x .dst)) (eqb (x .src) (x .dst)) (eqb (x .len) 0 || ltb most-length (x .len))
+    go (leb n (x .src)) (leb n (x .dst)) (eqb (x .len) 0 || ltb most-length (x .len))
     (eqb (x .due) 0 || ltb latest-due (x .due))
   where
-    go : (a b c d e : Bool) → _≡_ {A = ℕ} (cond a 3 (cond b 4 (cond c 5 (cond d 10 (cond e 6 0))))) 9 → ⊥
-    go true b c d e z = omega arith
-    go false true c d e z = omega arith
-    go false false true d e z = omega arith
-    go false false false true e z = omega arith
-    go false false false false true z = omega arith
-    go false false false false false z = omega arith
+    go : (a b c d : Bool) → _≡_ {A = ℕ} (cond a 3 (cond b 4 (cond c 10 (cond d 6 0)))) 9 → ⊥
+    go true b c d z = omega arith
+    go false true c d z = omega arith
+    go false false true d z = omega arith
+    go false false false true z = omega arith
+    go false false false false z = omega arith
 
 rows-not-late : (n : ℕ) (rows : List Row) (above : ℕ) (r : Refusal) → judgeRows n rows above ≡ Refused r
     → r .number ≡ 9 → ⊥

@@ -40,14 +40,14 @@ rowBy f = record { src = f 0; dst = f 1; len = f 2; due = f 3 }
 abbrev pub refuse : (number row slot : ℕ) → Refusal
 refuse number row slot = record { number = number; row = row; slot = record { 0 = slot } }
 
--- What is wrong with one row of a table for n nodes: 3, 4, 5, 10 or 6, in this order, and 0 where nothing is.
+-- What is wrong with one row of a table for n nodes: 3, 4, 10 or 6, in this order, and 0 where nothing is. A row may
+-- go once round to its own node.
 unfoldable pub rowRefusal : ℕ → Row → ℕ
 rowRefusal n r =
     cond (leb n (r .src)) 3
     (cond (leb n (r .dst)) 4
-    (cond (eqb (r .src) (r .dst)) 5
     (cond (eqb (r .len) 0 || ltb most-length (r .len)) 10
-    (cond (eqb (r .due) 0 || ltb latest-due (r .due)) 6 0))))
+    (cond (eqb (r .due) 0 || ltb latest-due (r .due)) 6 0)))
 
 -- The refusal of the first bad row, where `above` rows stand above the list.
 unfoldable pub judgeRows : ℕ → List Row → ℕ → Verdict

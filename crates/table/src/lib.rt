@@ -50,9 +50,6 @@ pub fn row_refusal(nodes: u16, r: Row) -> u16
     if nodes <= r.dst {
         return 4;
     }
-    if r.src == r.dst {
-        return 5;
-    }
     if r.len == 0 {
         return 10;
     }

@@ -34,7 +34,7 @@ returns-4 c =
       lt-leb _ _ (c .before .before .before .before .before .before .if1 .left),
       lt-leb _ _ (c .before .before .before .before .if2 .left),
       ne-eqb _ _ (c .before .before .if3 .left),
-      eq-eqb _ _ (c .if4 .taken),
+      lt-ltb _ _ (c .if4 .taken),
     )
 
 returns-5 : tie.Need-returns-5
@@ -44,20 +44,21 @@ returns-5 c =
       lt-leb _ _ (c .before .before .before .before .before .before .before .before .if1 .left),
       lt-leb _ _ (c .before .before .before .before .before .before .if2 .left),
       ne-eqb _ _ (c .before .before .before .before .if3 .left),
-      ne-eqb _ _ (c .before .before .if4 .left),
-      lt-ltb _ _ (c .if5 .taken),
+      le-ltb _ _ (c .before .before .if4 .left),
+      eq-eqb _ _ (c .if5 .taken),
     )
 
 returns-6 : tie.Need-returns-6
 unfolding rowRefusal
 returns-6 c =
+    let back6 = c .before .before .before .before .before .before in
     simp (
-      lt-leb _ _ (c .before .before .before .before .before .before .before .before .before .before .if1 .left),
-      lt-leb _ _ (c .before .before .before .before .before .before .before .before .if2 .left),
-      ne-eqb _ _ (c .before .before .before .before .before .before .if3 .left),
-      ne-eqb _ _ (c .before .before .before .before .if4 .left),
-      le-ltb _ _ (c .before .before .if5 .left),
-      eq-eqb _ _ (c .if6 .taken),
+      lt-leb _ _ (back6 .before .before .before .before .if1 .left),
+      lt-leb _ _ (back6 .before .before .if2 .left),
+      ne-eqb _ _ (back6 .if3 .left),
+      le-ltb _ _ (c .before .before .before .before .if4 .left),
+      ne-eqb _ _ (c .before .before .if5 .left),
+      lt-ltb _ _ (c .if6 .taken),
     )
 
 returns-7 : tie.Need-returns-7
@@ -65,28 +66,13 @@ unfolding rowRefusal
 returns-7 c =
     let back6 = c .before .before .before .before .before .before in
     simp (
-      lt-leb _ _ (back6 .before .before .before .before .before .before .if1 .left),
-      lt-leb _ _ (back6 .before .before .before .before .if2 .left),
-      ne-eqb _ _ (back6 .before .before .if3 .left),
-      ne-eqb _ _ (back6 .if4 .left),
-      le-ltb _ _ (c .before .before .before .before .if5 .left),
-      ne-eqb _ _ (c .before .before .if6 .left),
-      lt-ltb _ _ (c .if7 .taken),
-    )
-
-returns-8 : tie.Need-returns-8
-unfolding rowRefusal
-returns-8 c =
-    let back6 = c .before .before .before .before .before .before in
-    simp (
-      lt-leb _ _ (back6 .before .before .before .before .before .before .if1 .left),
-      lt-leb _ _ (back6 .before .before .before .before .if2 .left),
-      ne-eqb _ _ (back6 .before .before .if3 .left),
-      ne-eqb _ _ (back6 .if4 .left),
-      le-ltb _ _ (c .before .before .before .before .if5 .left),
-      ne-eqb _ _ (c .before .before .if6 .left),
-      le-ltb _ _ (c .if7 .left),
+      lt-leb _ _ (back6 .before .before .before .before .if1 .left),
+      lt-leb _ _ (back6 .before .before .if2 .left),
+      ne-eqb _ _ (back6 .if3 .left),
+      le-ltb _ _ (c .before .before .before .before .if4 .left),
+      ne-eqb _ _ (c .before .before .if5 .left),
+      le-ltb _ _ (c .if6 .left),
     )
 
 pub row-refusal-spec : {M : Type 1} → statement M
-row-refusal-spec = tie.close (tie.spec returns returns-2 returns-3 returns-4 returns-5 returns-6 returns-7 returns-8)
+row-refusal-spec = tie.close (tie.spec returns returns-2 returns-3 returns-4 returns-5 returns-6 returns-7)
