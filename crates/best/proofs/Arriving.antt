@@ -19,7 +19,8 @@ use Rattle.optimal.specs.Schedule.{leftAt}
 use Rattle.optimal.proofs.Plan.{plan-state}
 use Rattle.optimal.proofs.Deliveries.{delivered-first, plan-delivers}
 use Rattle.cells.specs.Rows.{Freight, owners, cellLinks, cellsLeft, Delivered}
-use Rattle.cells.specs.Cells.{Laden, cellTraffic, rowPlan, ofLastCells, rowArrivals}
+use Rattle.cells.specs.Cells.{cellTraffic, rowPlan, ofLastCells, rowArrivals}
+use Rattle.cells.specs.Steps.{Laden}
 use Rattle.cells.proofs.Seats.{firstCell, seat, cell-known}
 use Rattle.best.proofs.Order.{links-long, owner-at, seat-owner, Pair, pair, ordered}
 use Rattle.best.proofs.Best.{told-state, cell-dues}

@@ -23,7 +23,8 @@ use Rattle.optimal.proofs.Plan.{plan-names, plan-state}
 use Rattle.optimal.proofs.Optimal.{InTime, never-late-beside, plan-is-schedule}
 use Rattle.cells.specs.Rows.{Freight, owners, cellLinks, road, waits, earliest, carried, cellsLeft}
 use Rattle.cells.specs.Rows.{Holds, Delivered, LegalRows, MeetsRows, RowSchedule}
-use Rattle.cells.specs.Cells.{Laden, cellTraffic, ownerOf, rowOf, toldBy, toldInRows, rowPlan}
+use Rattle.cells.specs.Cells.{cellTraffic, ownerOf, toldBy, rowPlan}
+use Rattle.cells.specs.Steps.{Laden}
 use Rattle.cells.proofs.Seats.{firstCell, Seat, seat, cell-known}
 use Rattle.cells.proofs.Telling.{told-long}
 use Rattle.best.proofs.First.{first-is, first-none}
@@ -101,22 +102,22 @@ module _ (F : Freight) where
   T = cellTraffic F
 
   pub named-in-rows : (plan : List ℕ) (t : ℕ)
-      → namedIn (road F) (toldInRows F plan) t ≡ toldInRows F (namedIn T plan t)
-  unfolding namedIn toldInRows toldBy road cellTraffic
+      → namedIn (road F) (toldBy (owners F) plan) t ≡ toldBy (owners F) (namedIn T plan t)
+  unfolding namedIn toldBy road cellTraffic
   named-in-rows plan t =
       let told = ownerOf (owners F) in
       ap (take (F .nodes)) (map-drop told (t * F .nodes) plan) ∙ map-take told (F .nodes) (drop (t * F .nodes) plan)
 
-  pub told-at : (plan : List ℕ) (p : ℕ) → getD (toldInRows F plan) p 0 ≡ rowOf F (getD plan p 0)
-  unfolding toldInRows toldBy rowOf ownerOf
+  pub told-at : (plan : List ℕ) (p : ℕ) → getD (toldBy (owners F) plan) p 0 ≡ ownerOf (owners F) (getD plan p 0)
+  unfolding toldBy ownerOf
   told-at plan p = List·getD-map (ownerOf (owners F)) plan p 0
 
-  row-of-cell : (c : ℕ) → rowOf F (suc c) ≡ getD (owners F) c 0
-  unfolding rowOf ownerOf
+  row-of-cell : (c : ℕ) → ownerOf (owners F) (suc c) ≡ getD (owners F) c 0
+  unfolding ownerOf
   row-of-cell c = refl
 
-  row-of-none : rowOf F 0 ≡ 0
-  unfolding rowOf ownerOf
+  row-of-none : ownerOf (owners F) 0 ≡ 0
+  unfolding ownerOf
   row-of-none = refl
 
   module _ (t : ℕ) (state : List ℕ) (ring : OnRing T state) (long : length state ≡ total (F .len)) where
@@ -129,12 +130,12 @@ module _ (F : Freight) where
 
     -- The cell that the rule sends is its row's earliest at that node: an earlier one there has as far to go and no
     -- later due slot.
-    chosen-earliest : (p n : ℕ) → pick T t state p (length state) ≡ n → earliest F state (rowOf F n) p ≡ n
+    chosen-earliest : (p n : ℕ) → pick T t state p (length state) ≡ n → earliest F state (ownerOf (owners F) n) p ≡ n
     unfolding earliest
     chosen-earliest p zero e =
-        first-none (waits F state (rowOf F 0) p) (length state) 0 (λ c l m.
-        not-waiting (rowOf F 0) p c (λ w.
-        pick-none T t state p (length state) e c (omega arith) (waits-then F state (rowOf F 0) p c w .1)))
+        first-none (waits F state (ownerOf (owners F) 0) p) (length state) 0 (λ c l m.
+        not-waiting (ownerOf (owners F) 0) p c (λ w.
+        pick-none T t state p (length state) e c (omega arith) (waits-then F state (ownerOf (owners F) 0) p c w .1)))
     chosen-earliest p (suc c) e =
         first-is (waits F state row p) (length state) 0 c
         (record {
@@ -145,7 +146,7 @@ module _ (F : Freight) where
         })
       where
         row : ℕ
-        row = rowOf F (suc c)
+        row = ownerOf (owners F) (suc c)
 
         best : Picked T t state p (length state) c
         best = pick-least T t state p (length state) c e
@@ -157,13 +158,14 @@ module _ (F : Freight) where
             let as-far = same-left F state ring d c p known (best .inside) (pair-dst F pr) stands (best .stands) in
             omega (arith, best .lowest d m stands, pair-due F pr, as-far)
 
-    pub told-carries : carried F (toldInRows F (slotOf T t state)) state ≡ slotOf T t state
+    pub told-carries : carried F (toldBy (owners F) (slotOf T t state)) state ≡ slotOf T t state
     unfolding carried slotOf cellTraffic
     told-carries =
-        let told = toldInRows F (slotOf T t state) in
+        let told = toldBy (owners F) (slotOf T t state) in
         build-ext (F .nodes) (λ p. earliest F state (getD told p 0) p) (λ p. pick T t state p (length state))
         (λ p l.
-        ap (λ row. earliest F state row p) (told-at (slotOf T t state) p ∙ ap (rowOf F) (slot-entry T t state p l))
+        ap (λ row. earliest F state row p)
+        (told-at (slotOf T t state) p ∙ ap (ownerOf (owners F)) (slot-entry T t state p l))
         ∙ chosen-earliest p (pick T t state p (length state)) refl)
 
   -- So the plan's run, told in rows, is the rule's.
@@ -178,16 +180,16 @@ module _ (F : Freight) where
       plan : List ℕ
       plan = planOf T (cellLinks F) slots
 
-      names : namedIn (road F) (toldInRows F plan) t ≡ toldInRows F (slotOf T t state)
-      names = named-in-rows plan t ∙ ap (toldInRows F) (plan-names T (cellLinks F) slots t l)
+      names : namedIn (road F) (toldBy (owners F) plan) t ≡ toldBy (owners F) (slotOf T t state)
+      names = named-in-rows plan t ∙ ap (toldBy (owners F)) (plan-names T (cellLinks F) slots t l)
 
-      carries : carried F (toldInRows F (slotOf T t state)) state ≡ slotOf T t state
+      carries : carried F (toldBy (owners F) (slotOf T t state)) state ≡ slotOf T t state
       carries =
           told-carries t state (state-on-ring T (cellLinks F) (laid-on-ring F laden) t)
           (state-length T (cellLinks F) t ∙ links-long F)
 
       told : List ℕ
-      told = toldInRows F plan
+      told = toldBy (owners F) plan
 
       so-far : cellsLeft F told t ≡ state
           → moved (road F) (carried F (namedIn (road F) told t) (cellsLeft F told t)) (cellsLeft F told t)
@@ -211,20 +213,20 @@ module _ {F : Freight} (laden : Laden F) (slots : ℕ) where
   sent t p = pick cells t (state t) p (length (state t))
 
   pub row-plan-long : length (rowPlan F slots) ≡ slots * F .nodes
-  unfolding rowPlan toldInRows cellTraffic
+  unfolding rowPlan cellTraffic
   row-plan-long = told-long (owners F) (planOf cells start slots) ∙ plan-length cells start slots
 
   told-names : (t p : ℕ) → t < slots → p < F .nodes
-      → getD (namedIn (road F) (rowPlan F slots) t) p 0 ≡ rowOf F (sent t p)
+      → getD (namedIn (road F) (rowPlan F slots) t) p 0 ≡ ownerOf (owners F) (sent t p)
   unfolding rowPlan cellTraffic
   told-names t p l inside =
       let plan = planOf cells start slots in
       ap (λ s. getD s p 0) (named-in-rows F plan t) ∙ told-at F (namedIn cells plan t) p
-      ∙ ap (λ s. rowOf F (getD s p 0)) (plan-names cells start slots t l)
-      ∙ ap (rowOf F) (slot-entry cells t (state t) p inside)
+      ∙ ap (λ s. ownerOf (owners F) (getD s p 0)) (plan-names cells start slots t l)
+      ∙ ap (ownerOf (owners F)) (slot-entry cells t (state t) p inside)
 
   -- the row of a cell that is sent at p has a cell there
-  holds : (t p i n : ℕ) → sent t p ≡ n → rowOf F n ≡ suc i → Holds F (state t) i p
+  holds : (t p i n : ℕ) → sent t p ≡ n → ownerOf (owners F) n ≡ suc i → Holds F (state t) i p
   unfolding Holds
   holds t p i zero e f = absurd (omega (arith, row-of-none F))
   holds t p i (suc c) e f =

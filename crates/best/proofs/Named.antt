@@ -16,7 +16,7 @@ use Rattle.slack.specs.Slack.{isLate, lateRow, stopOf}
 use Rattle.lists.proofs.Truth.{differ}
 use Rattle.slack.proofs.Rule.{LowestLate, late-lowest}
 use Rattle.cells.specs.Rows.{Freight, owners, cellLinks}
-use Rattle.cells.specs.Cells.{cellTraffic, ownerOf, rowOf, endBy, rowStop, RowLate}
+use Rattle.cells.specs.Cells.{cellTraffic, ownerOf, endBy, rowStop, RowLate}
 use Rattle.cells.specs.Steps.{AboveZero}
 use Rattle.cells.proofs.Seats.{Seat, seat, rows-apart}
 use Rattle.cells.proofs.Telling.{cell-named, none-named, stop-cell}
@@ -24,9 +24,9 @@ use Rattle.best.proofs.Order.{owners-long, links-long, seat-owner}
 
 pub late-names-lowest : (F : Freight) (t : ℕ) (left : List ℕ) → length left ≡ total (F .len)
     → (c : ℕ) → lateRow (cellTraffic F) t left ≡ suc c
-    → (i : ℕ) × (rowOf F (suc c) ≡ suc i) × (i < length (F .len)) × RowLate F t left i
+    → (i : ℕ) × (ownerOf (owners F) (suc c) ≡ suc i) × (i < length (F .len)) × RowLate F t left i
     × ((j : ℕ) → j < i → RowLate F t left j → ⊥)
-unfolding RowLate rowOf ownerOf
+unfolding RowLate ownerOf
 late-names-lowest F t left long c e =
     (s .row, seat-owner F s, s .known, (c, low .inside, seat-owner F s, low .late), none)
   where

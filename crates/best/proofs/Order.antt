@@ -22,7 +22,8 @@ use Rattle.ring.proofs.Onward.{still-to-go}
 use Rattle.optimal.specs.Schedule.{namedIn}
 use Rattle.cells.specs.Rows.{Freight, ownersOf, owners, laidOut, cellLinks, road}
 use Rattle.cells.specs.Rows.{waits, earliest, carried, cellsLeft}
-use Rattle.cells.specs.Cells.{Laden, duesOf, cellDues, cellTraffic}
+use Rattle.cells.specs.Cells.{duesOf, cellDues, cellTraffic}
+use Rattle.cells.specs.Steps.{Laden}
 use Rattle.best.proofs.First.{First, first-then}
 use Rattle.cells.proofs.Seats.{firstCell, per-cell-length, per-cell-entry, Seat, seat, cell-known}
 

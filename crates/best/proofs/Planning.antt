@@ -17,7 +17,8 @@ use Rattle.slack.specs.Slack.{planOf, stopOf}
 use Rattle.optimal.specs.Schedule.{busy}
 use Rattle.optimal.proofs.Sends.{sends-counted}
 use Rattle.cells.specs.Rows.{Freight, owners, cellLinks}
-use Rattle.cells.specs.Cells.{Laden, cellTraffic, ownerOf, toldBy, toldInRows, rowPlan}
+use Rattle.cells.specs.Cells.{cellTraffic, ownerOf, toldBy, rowPlan}
+use Rattle.cells.specs.Steps.{Laden}
 use Rattle.cells.specs.Steps.{AtMost, AboveZero}
 use Rattle.cells.proofs.Seats.{Seat, seat, firstCell}
 use Rattle.cells.proofs.Telling.{plan-at-most}
@@ -46,8 +47,8 @@ module _ (F : Freight) where
           omega (arith, seat-due F last, some i known, at-most-largest (cellTraffic F .due) cell)
 
 module _ (F : Freight) where
-  same-busy : (plan : List ℕ) → AtMost (total (F .len)) plan → busy (toldInRows F plan) ≡ busy plan
-  unfolding busy toldInRows toldBy ownerOf
+  same-busy : (plan : List ℕ) → AtMost (total (F .len)) plan → busy (toldBy (owners F) plan) ≡ busy plan
+  unfolding busy toldBy ownerOf
   same-busy [] h = refl
   same-busy (zero ∷ plan) h = ap (λ n. 0 + n) (same-busy plan (λ k l. h (suc k) (omega arith)))
   same-busy (suc c ∷ plan) h =

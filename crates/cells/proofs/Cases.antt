@@ -16,7 +16,7 @@ use Rattle.optimal.proofs.Count.{find, both-decided}
 use Rattle.optimal.proofs.Tests.{alike, all-below, row-named, all-three, some-below, Says, as-decided}
 use Rattle.cells.specs.Rows.{firstThat, Freight, freight, perCell, ownersOf, owners, laidOut, cellLinks, road}
 use Rattle.cells.specs.Rows.{waits, earliest, carried, cellsLeft, LegalRows, MeetsRows, RowSchedule}
-use Rattle.cells.specs.Cells.{duesOf, cellDues, cellTraffic, ownerOf, toldBy, toldInRows, rowPlan}
+use Rattle.cells.specs.Cells.{duesOf, cellDues, cellTraffic, ownerOf, toldBy, rowPlan}
 use Rattle.cells.specs.Cells.{endBy, rowStop, ofLastCells, rowArrivals}
 use Rattle.cells.proofs.Tests.{follows, holds-decided, delivered-decided}
 use Rattle.cells.proofs.Tests.{legal-rows-decided, meets-rows-decided, row-schedule-decided}
@@ -156,6 +156,6 @@ outcomes-computed : map outcome (
     ∷ [])
 unfolding total largest standing underWay place slackOf slack isLate lateFrom lateRow better pick slotOf moved stateAt
     planOf deliveredFrom arrivalsOf anyUnderWay stopFrom stopOf perCell ownersOf owners laidOut cellLinks
-    duesOf cellDues cellTraffic ownerOf toldBy toldInRows rowPlan endBy rowStop ofLastCells
+    duesOf cellDues cellTraffic ownerOf toldBy rowPlan endBy rowStop ofLastCells
     rowArrivals
 outcomes-computed = refl

@@ -1,6 +1,6 @@
 -- How the rule sees rows of several cells: each cell is to it a row of its own, with its own due slot. A plan of cells
 -- is then told in rows, and a row arrives with its last cell.
-use Prim.Native.Nat.{ℕ, suc, pred, _-_, _<_, _≤_}
+use Prim.Native.Nat.{ℕ, suc, pred, _-_, _<_}
 use mathlib.Core.Path.{_≡_}
 use mathlib.Core.Bool.{true}
 use mathlib.Core.List.{List, _∷_, map}
@@ -9,12 +9,6 @@ use Rattle.lists.specs.Lists.{build, total}
 use Rattle.slack.specs.Slack.{Traffic, traffic, planOf, arrivalsOf, isLate, stopOf}
 use Rattle.slack.specs.declared.Stop.{Stop}
 use Rattle.cells.specs.Rows.{Freight, perCell, laidOut, owners, cellLinks}
-
--- A table of the ring: destinations on it, and from 0 links to a full turn to go.
-pub record Laden (F : Freight) : Type 0 where
-  pub some-node : 0 < F .nodes
-  pub dst-inside : (i : ℕ) → i < length (F .len) → getD (F .dst) i 0 < F .nodes
-  pub links-inside : (i : ℕ) → i < length (F .len) → getD (F .links) i 0 ≤ F .nodes
 
 -- Cell j of l, counted from 1, is due l - j slots before its row; 0 where that would be before instant 0.
 unfoldable pub duesOf : (len due : List ℕ) → List ℕ
@@ -31,20 +25,13 @@ cellTraffic F = traffic (F .nodes) (laidOut (F .len) (F .dst)) (cellDues F)
 unfoldable pub ownerOf : List ℕ → ℕ → ℕ
 ownerOf owner cell = getD (0 ∷ owner) cell 0
 
--- The same for the cells of a table.
-unfoldable pub rowOf : Freight → ℕ → ℕ
-rowOf F cell = ownerOf (owners F) cell
-
 -- A plan of cells, told in rows.
 unfoldable pub toldBy : (owner plan : List ℕ) → List ℕ
 toldBy owner plan = map (ownerOf owner) plan
 
-unfoldable pub toldInRows : Freight → List ℕ → List ℕ
-toldInRows F plan = toldBy (owners F) plan
-
 -- The rule's plan of a table, in rows.
 unfoldable pub rowPlan : Freight → ℕ → List ℕ
-rowPlan F slots = toldInRows F (planOf (cellTraffic F) (cellLinks F) slots)
+rowPlan F slots = toldBy (owners F) (planOf (cellTraffic F) (cellLinks F) slots)
 
 -- Where a run of cells ends, told in rows: the instant, and the row of the lowest late cell, 0 where none is late.
 unfoldable pub endBy : (owner : List ℕ) → Stop → Stop

@@ -4,8 +4,14 @@ use mathlib.Core.Path.{_≡_}
 use mathlib.Core.List.{List, _++_}
 use lib.ListN.{length, getD, take, drop}
 use Rattle.lists.specs.Lists.{build, total}
-use Rattle.cells.specs.Rows.{ownersOf, laidOut}
+use Rattle.cells.specs.Rows.{Freight, ownersOf, laidOut}
 use Rattle.cells.specs.Cells.{duesOf}
+
+-- A table of the ring: destinations on it, and from 0 links to a full turn to go.
+pub record Laden (F : Freight) : Type 0 where
+  pub some-node : 0 < F .nodes
+  pub dst-inside : (i : ℕ) → i < length (F .len) → getD (F .dst) i 0 < F .nodes
+  pub links-inside : (i : ℕ) → i < length (F .len) → getD (F .links) i 0 ≤ F .nodes
 
 -- n numbers of which the last is given and each one before it is `step` less, 0 where that would be below 0.
 unfoldable pub falling : (n last step : ℕ) → List ℕ

@@ -1,4 +1,6 @@
--- A legal schedule, in the words of document 01, for any list of entries; the sending rule is not mentioned.
+-- A legal schedule of messages of one cell, in the words of document 01, for any list of entries; the sending rule is
+-- not mentioned. The planner's promise reads over rows of several cells (`cells/specs/Rows.antt`), and is led back to
+-- this.
 use Prim.Native.Nat.{ℕ, zero, suc, _+_, _*_, _<_, _≤_}
 use mathlib.Core.Path.{_≡_}
 use mathlib.Core.Bool.{cond}

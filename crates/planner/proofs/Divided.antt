@@ -24,7 +24,8 @@ use Rattle.table.specs.declared.Row.{Row}
 use Rattle.table.specs.Table.{WellFormed, lengths, cellsIn, sendsOf, lastDue}
 use Rattle.optimal.proofs.Deliveries.{delivered-first}
 use Rattle.cells.specs.Rows.{Freight, cellLinks}
-use Rattle.cells.specs.Cells.{Laden, cellTraffic}
+use Rattle.cells.specs.Cells.{cellTraffic}
+use Rattle.cells.specs.Steps.{Laden}
 use Rattle.best.proofs.Order.{links-long, laid-on-ring}
 use Rattle.best.proofs.Arriving.{last, arrival-is}
 use Rattle.planner.specs.declared.Summary.{Summary}

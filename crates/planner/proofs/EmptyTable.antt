@@ -15,7 +15,7 @@ use Rattle.lists.specs.Lists.{total, largest}
 use Rattle.table.specs.Table.{judge, judgeRows, judgeAll, afterRows, cellsIn, lengths, dues, distances, sendsOf, lastDue}
 use Rattle.slack.specs.Slack.{planOf, arrivalsOf, lateFrom, lateRow, anyUnderWay, stopFrom, stopOf}
 use Rattle.cells.specs.Rows.{perCell, ownersOf, owners, laidOut, cellLinks, LegalRows, MeetsRows}
-use Rattle.cells.specs.Cells.{cellTraffic, ownerOf, toldBy, toldInRows, rowPlan, endBy, rowStop}
+use Rattle.cells.specs.Cells.{cellTraffic, ownerOf, toldBy, rowPlan, endBy, rowStop}
 use Rattle.cells.specs.Cells.{ofLastCells, rowArrivals}
 use Rattle.planner.specs.declared.Summary.{Summary}
 use Rattle.planner.specs.declared.Answer.the-variants.{Accepted}
@@ -55,7 +55,7 @@ empty-summary n = rw (mul-zero n)
 
 -- And no entry is used.
 pub empty-areas : (n : ℕ) → (thePlan n [] ≡ []) × (theArrivals n [] ≡ [])
-unfolding thePlan rowPlan toldInRows toldBy planOf theArrivals rowArrivals ofLastCells arrivalsOf largest lengths dues
+unfolding thePlan rowPlan toldBy planOf theArrivals rowArrivals ofLastCells arrivalsOf largest lengths dues
     distances lastDue
 empty-areas n = (refl, refl)
 

@@ -22,7 +22,8 @@ use Rattle.table.specs.Steps.{rowsOf, Measuring}
 use Rattle.table.proofs.Judging.{GoodRow, good-rows, all-good, rows-long, rows-at}
 use Rattle.table.proofs.Judging.{its-destinations, its-lengths, its-cells, its-dues, its-distances}
 use Rattle.cells.specs.Rows.{Freight, freight}
-use Rattle.cells.specs.Cells.{Laden, rowStop, rowPlan, rowArrivals}
+use Rattle.cells.specs.Cells.{rowStop, rowPlan, rowArrivals}
+use Rattle.cells.specs.Steps.{Laden}
 use Rattle.cells.specs.Steps.{AboveZero}
 use Rattle.best.proofs.Best.{row-plan-long}
 use Rattle.rows.specs.Steps.{Loaded}

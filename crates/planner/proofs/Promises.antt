@@ -35,7 +35,8 @@ use Rattle.slack.proofs.Ending.{stop-first}
 use Rattle.optimal.specs.Schedule.{busy}
 use Rattle.optimal.proofs.Deliveries.{First, delivered-first}
 use Rattle.cells.specs.Rows.{Freight, owners, cellLinks}
-use Rattle.cells.specs.Cells.{Laden, cellTraffic, ownerOf, rowOf, rowPlan, endBy, rowStop, RowLate}
+use Rattle.cells.specs.Cells.{cellTraffic, ownerOf, rowPlan, endBy, rowStop, RowLate}
+use Rattle.cells.specs.Steps.{Laden}
 use Rattle.cells.specs.Steps.{AboveZero}
 use Rattle.best.proofs.Best.{row-plan-long, cell-dues, told-is-schedule, rows-late-iff-none}
 use Rattle.best.proofs.Order.{links-long, links-at}
@@ -199,7 +200,7 @@ module _ {n : ℕ} {rows : List Row} {plan arrivals plan′ arrivals′ : List �
       → ((u i : ℕ) → u < t → RowLate F u (stateAt T start u) i → ⊥)
       × ((i : ℕ) × (row ≡ suc i) × (i < length rows) × RowLate F t (stateAt T start t) i
       × ((j : ℕ) → j < i → RowLate F t (stateAt T start t) j → ⊥))
-  unfolding ending numberOf rowStop endBy rowOf RowLate
+  unfolding ending numberOf rowStop endBy ownerOf RowLate
   late-names-the-first row t e =
       let ends = stop-first T start slots in
       let is-late : ending n rows .row ≡ 0 → ⊥ = late-row (ap numberOf e) in

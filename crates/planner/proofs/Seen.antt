@@ -25,8 +25,8 @@ use Rattle.table.specs.Table.{lengths, dues, lastDue}
 use Rattle.table.proofs.Judging.{never-good}
 use Rattle.slack.specs.Slack.{Traffic, pick, stateAt, planOf}
 use Rattle.optimal.proofs.Plan.{entry-inside, plan-entry}
-use Rattle.cells.specs.Rows.{Freight, cellLinks, cellsLeft, Delivered, MeetsRows}
-use Rattle.cells.specs.Cells.{cellTraffic, rowOf, rowPlan, rowArrivals}
+use Rattle.cells.specs.Rows.{Freight, cellLinks, cellsLeft, Delivered, MeetsRows, owners}
+use Rattle.cells.specs.Cells.{cellTraffic, ownerOf, rowPlan, rowArrivals}
 use Rattle.best.proofs.Order.{links-long}
 use Rattle.best.proofs.Best.{told-at}
 use Rattle.best.proofs.Arriving.{row-arrives}
@@ -140,7 +140,7 @@ module _ {n : ℕ} {rows : List Row} {plan arrivals plan′ arrivals′ : List �
 
   -- Entry t × N + p of an accepted plan is the row of the cell that the rule picks at p at instant t.
   pub entry-is-pick : (t p : ℕ) → t < lastDue rows → p < n
-      → getD plan′ (t * n + p) 0 ≡ rowOf F (pick T t (stateAt T start t) p (total (lengths rows)))
+      → getD plan′ (t * n + p) 0 ≡ ownerOf (owners F) (pick T t (stateAt T start t) p (total (lengths rows)))
   unfolding rowPlan cellTraffic
   entry-is-pick t p early inside =
       let before-end = entry-inside n (lastDue rows) t p early inside in
@@ -148,8 +148,8 @@ module _ {n : ℕ} {rows : List Row} {plan arrivals plan′ arrivals′ : List �
       let plan = planOf T start (lastDue rows) in
       sym (getD-take (planRoom n rows) plan′ (t * n + p) 0 used)
       ∙ ap (λ front. getD front (t * n + p) 0) (the-plan-is accepted-is-plannable out accepted)
-      ∙ told-at F plan (t * n + p) ∙ ap (rowOf F) (plan-entry T start (lastDue rows) t p early inside)
-      ∙ ap (λ m. rowOf F (pick T t (stateAt T start t) p m)) (links-long F)
+      ∙ told-at F plan (t * n + p) ∙ ap (ownerOf (owners F)) (plan-entry T start (lastDue rows) t p early inside)
+      ∙ ap (λ m. ownerOf (owners F) (pick T t (stateAt T start t) p m)) (links-long F)
 
   -- Row i's arrival is that of the rule's run.
   its-arrival : (i : ℕ) → i < length rows → getD arrivals′ i 0 ≡ getD (rowArrivals F (lastDue rows)) i 0

@@ -101,8 +101,7 @@ pub record Planned (n : ℕ) (rows : List Row) (plan arrivals : List ℕ) (answe
 abbrev pub ScheduleOf : ℕ → List Row → List ℕ → Type 0
 ScheduleOf n rows = RowSchedule (freightOf n rows) (lastDue rows)
 
--- A well-formed table with room for its plan and its arrivals: refusals 1 to 8, 10 and 11 do not
--- hold of it.
+-- A well-formed table with room for its plan and its arrivals: refusals 1 to 8, 10 and 11 do not hold of it.
 pub record Plannable (n : ℕ) (rows : List Row) (plan arrivals : List ℕ) : Type 0 where
   pub well-formed : WellFormed n rows
   pub room-for-plan : planRoom n rows ≤ length plan

@@ -24,9 +24,9 @@ crossed len links = total (build (length len) (λ i. getD len i 0 * getD links i
 -- The answer to a run that ends so: acceptance with the summary where no row is late.
 unfoldable pub answerToRun : Freight → Stop → Answer
 answerToRun F stop =
+    let arrivals = rowArrivals F (largest (F .due)) in
     cond (eqb (stop .row) 0)
-    (Accepted (summaryOf (length (F .len)) (crossed (F .len) (F .links)) (F .nodes * largest (rowArrivals F (largest (F .due))))
-    (rowArrivals F (largest (F .due)))))
+    (Accepted (summaryOf (length (F .len)) (crossed (F .len) (F .links)) (F .nodes * largest arrivals) arrivals))
     (Refused (refuse 9 (stop .row) (stop .slot .0)))
 
 -- What planning a run in areas of just its size gives.

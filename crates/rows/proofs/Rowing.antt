@@ -15,7 +15,7 @@ use Rattle.lists.proofs.Build.{build-ext, build-const}
 use Rattle.slack.specs.Slack.{traffic, arrivalsOf}
 use Rattle.slack.specs.declared.Stop.{Stop}
 use Rattle.cells.specs.Rows.{Freight, owners, cellLinks}
-use Rattle.cells.specs.Cells.{cellDues, cellTraffic, toldInRows, rowPlan, rowStop, ofLastCells, rowArrivals}
+use Rattle.cells.specs.Cells.{cellDues, cellTraffic, rowPlan, rowStop, ofLastCells, rowArrivals}
 use Rattle.cells.specs.Steps.{Laid}
 use Rattle.best.proofs.Order.{owners-long, links-long, laid-on-ring}
 use Rattle.best.proofs.Named.{owner-named}
@@ -89,7 +89,7 @@ module _ {F : Freight} {plan arrivals : List ℕ} (loaded : Loaded F plan arriva
           stops = unfold rowStop in rw last-is at (ran .stops)
 
           carries : plan′ ≡ cond (eqb (stop .row) 0) (rowPlan F (largest (F .due))) (replicate room 0)
-          carries = unfold rowPlan toldInRows in rw last-is at (ran .carries)
+          carries = unfold rowPlan in rw last-is at (ran .carries)
 
           stamped : List ℕ
           stamped = arrivalsOf (cellTraffic F) (cellLinks F) (largest (F .due))

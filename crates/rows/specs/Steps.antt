@@ -8,7 +8,8 @@ use lib.ListN.{length, replicate}
 use Rattle.lists.specs.Lists.{total, largest}
 use Rattle.slack.specs.declared.Stop.{Stop}
 use Rattle.cells.specs.Rows.{Freight}
-use Rattle.cells.specs.Cells.{Laden, rowPlan, rowArrivals, rowStop}
+use Rattle.cells.specs.Cells.{rowPlan, rowArrivals, rowStop}
+use Rattle.cells.specs.Steps.{Laden}
 use Rattle.cells.specs.Steps.{AboveZero}
 
 -- A run of rows can be planned: each has a cell or more, of at most 1,024 in all, and there is an entry for each link

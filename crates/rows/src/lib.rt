@@ -13,7 +13,7 @@ use run::run;
 use slack::Stop;
 
 // A number for each cell that a table may have.
-pub fn no_cells() -> [u16; 1024]
+fn no_cells() -> [u16; 1024]
     ensures { λ r. ⌜ r ≡ replicate {A = ℕ} 1024 0 ⌝ }
 {
     [0u16; 1024]
