@@ -1,7 +1,7 @@
-/* An operator's path: enter a table, plan it, look at the plan; then meet a refusal, mend it, and meet a late table; then
-   send a message of several cells, and meet one that is too long; then test the fibre with a message once round, and meet
-   one that is due a slot too early; then keep the table as text, read it back, and meet a wrong line; then edit a table row
-   by row with the load of each link in view, and plan it. */
+/* An operator's path: enter a table, see how many looks planning may take, plan it, look at the plan; then meet a refusal,
+   mend it, and meet a late table; then send a message of several cells, and meet one that is too long; then test the fibre
+   with a message once round, and meet one that is due a slot too early; then keep the table as text, read it back, and meet
+   a wrong line; then edit a table row by row with the load of each link in view, and plan it. */
 #include "garboardle.h"
 
 #include <stdio.h>
@@ -64,7 +64,8 @@ static void show_plan(uint16_t nodes, unsigned slots)
 /* What planning these rows came to. */
 static void show_answer(struct garboardle_answer a, uint16_t nodes, const struct garboardle_row *rows, size_t count)
 {
-    printf("  answer %u (%s), row %u, slot %u\n", (unsigned)a.number, words[a.number], (unsigned)a.row, (unsigned)a.slot);
+    printf("  answer %u (%s), row %u, slot %u, looks %lu\n", (unsigned)a.number, words[a.number], (unsigned)a.row,
+           (unsigned)a.slot, (unsigned long)a.looks);
     if (a.number != 0)
         return;
 
@@ -80,6 +81,7 @@ static void operate(const char *what, uint16_t nodes, const struct garboardle_ro
     printf("%s: %u nodes\n", what, (unsigned)nodes);
     for (size_t i = 0; i < count; i++)
         show_row(i + 1, rows[i].src, rows[i].dst, rows[i].len, rows[i].due);
+    printf("  at most %lu looks\n", (unsigned long)garboardle_most_looks(nodes, rows, count));
     show_answer(garboardle_plan(nodes, rows, count, plan, LENGTH(plan), arrivals, LENGTH(arrivals)), nodes, rows, count);
 }
 
@@ -149,6 +151,13 @@ static void edit(void)
     report("add once round", garboardle_add(&desk, (struct garboardle_row){3, 3, 1, 9}));
 }
 
+/* Whether two answers are equal, field by field: the bytes between looks and mean are anyone's. */
+static int same_answers(struct garboardle_answer a, struct garboardle_answer b)
+{
+    return a.number == b.number && a.row == b.row && a.slot == b.slot && a.last == b.last && a.sends == b.sends &&
+           a.sum == b.sum && a.looks == b.looks && a.mean == b.mean && a.share == b.share;
+}
+
 /* Plans the edited table, then the same rows entered afresh, and compares what came of both. */
 static void plan_edited(void)
 {
@@ -157,10 +166,11 @@ static void plan_edited(void)
     struct garboardle_answer b =
         garboardle_plan(4, rows, LENGTH(rows), plan_afresh, LENGTH(plan_afresh), arrivals_afresh, LENGTH(arrivals_afresh));
     printf("edited: %u nodes, %u rows\n", (unsigned)desk.nodes, (unsigned)desk.rows);
+    printf("  at most %lu looks\n", (unsigned long)garboardle_most_looks_table(&desk));
     show_answer(a, desk.nodes, desk.row, desk.rows);
 
     size_t entries = 4 * largest_due(rows, LENGTH(rows));
-    int same = memcmp(&a, &b, sizeof a) == 0 && memcmp(plan, plan_afresh, entries * sizeof plan[0]) == 0 &&
+    int same = same_answers(a, b) && memcmp(plan, plan_afresh, entries * sizeof plan[0]) == 0 &&
                memcmp(arrivals, arrivals_afresh, LENGTH(rows) * sizeof arrivals[0]) == 0;
     printf("entered afresh: %s\n", same ? "the same plan" : "another plan");
 }

@@ -23,6 +23,9 @@ extern "C" {
 #define GARBOARDLE_MOST_ARRIVALS GARBOARDLE_MOST_ROWS
 #define GARBOARDLE_LONGEST_TEXT 20501
 
+/* Planning takes no more looks than this, whatever the table. */
+#define GARBOARDLE_MOST_LOOKS (GARBOARDLE_MOST_CELLS * (GARBOARDLE_LATEST_DUE + 1u))
+
 /* Areas of these lengths are long enough for every sentence, which is a string, a space, a row, a space and a slot, and for
    every label. */
 #define GARBOARDLE_LONGEST_SENTENCE (96 + 1 + 5 + 1 + 5)
@@ -39,7 +42,11 @@ struct garboardle_row {
 };
 
 /* The planner's answer. Accepted: number, row and slot are 0, and the figures are those of the plan, all 0 for an empty
-   table. Refused: number says why, row and slot say where, and the figures are 0.
+   table. Refused: number says why, row and slot say where, and the figures are 0, but for the looks of a 9.
+
+   One look is one undelivered cell at one instant at which the rule is applied, from instant 0 on. Accepted: looks is the
+   sum of all cells' delivery instants. Refused with 9: it is the undelivered cells at each instant up to and with slot.
+   Refused else: the rule was never applied, and it is 0.
 
    number  given when                            row  slot
    1       nodes outside 2 to 32                 0    0
@@ -62,6 +69,7 @@ struct garboardle_answer {
     uint16_t last;  /* last delivery instant */
     uint32_t sends; /* sends: the sum of all cells' distances, nodes for one that goes once round */
     uint32_t sum;   /* sum of the rows' delivery instants */
+    uint32_t looks; /* looks taken */
     double mean;    /* mean delay: sum / rows */
     double share;   /* used share: sends / (nodes * last) */
 };
@@ -77,6 +85,14 @@ struct garboardle_answer {
    No entry past those needed is touched. */
 struct garboardle_answer garboardle_plan(uint16_t nodes, const struct garboardle_row *rows, size_t rows_len,
                                          uint16_t *plan, size_t plan_len, uint16_t *arrivals, size_t arrivals_len);
+
+/* The most looks that planning this table can take, for a watchdog that must know before the call: cells * (largest due
+   slot + 1), and 0 for a table that is refused with 1, 2, 3, 4, 10, 6 or 11. Whether it is late, or an area too short, is
+   not asked.
+
+   The caller lends rows for the call, and nothing is kept of them after it: they are read. rows is not null, not even with
+   length 0. */
+uint32_t garboardle_most_looks(uint16_t nodes, const struct garboardle_row *rows, size_t rows_len);
 
 /* A table as text is lines of key=value: nodes, rows, then src, dst, len and due for each row. Each is the key, an equals
    sign, a decimal numeral of 0 to 65535 with no leading zero, and one line feed. Nothing follows the last line.
@@ -211,6 +227,10 @@ struct garboardle_link garboardle_busiest(const struct garboardle_table *table);
    which is only read. */
 struct garboardle_answer garboardle_plan_table(const struct garboardle_table *table, uint16_t *plan, size_t plan_len,
                                                uint16_t *arrivals, size_t arrivals_len);
+
+/* The most looks that planning an edited table can take: those of garboardle_most_looks for the same nodes and rows, and 0
+   for an area that is refused with 1 or 2. */
+uint32_t garboardle_most_looks_table(const struct garboardle_table *table);
 
 /* A catalogue has the words of one language, as text of 26 lines in this order: r0 for acceptance; r1 to r12, r20 to r22
    and r30 to r33 for the refusals of these numbers; f1 to f6 for the labels of nodes, source, destination, due slot,

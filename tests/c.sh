@@ -13,9 +13,11 @@ gcc -std=c99 $warnings -fsyntax-only -x c include/garboardle.h
 g++ -std=c++11 $warnings -fsyntax-only -x c++ include/garboardle.h
 gcc -std=c11 $warnings -fsyntax-only -Iinclude -x c - << 'END'
 #include "garboardle.h"
-_Static_assert(sizeof(struct garboardle_row) == 8 && sizeof(struct garboardle_answer) == 32, "sizes");
+_Static_assert(sizeof(struct garboardle_row) == 8 && sizeof(struct garboardle_answer) == 40, "sizes");
 _Static_assert(offsetof(struct garboardle_answer, last) == 6 && offsetof(struct garboardle_answer, sum) == 12, "numbers");
-_Static_assert(offsetof(struct garboardle_answer, mean) == 16 && offsetof(struct garboardle_answer, share) == 24, "floats");
+_Static_assert(offsetof(struct garboardle_answer, sends) == 8 && offsetof(struct garboardle_answer, looks) == 16, "numbers");
+_Static_assert(offsetof(struct garboardle_answer, mean) == 24 && offsetof(struct garboardle_answer, share) == 32, "floats");
+_Static_assert(GARBOARDLE_MOST_LOOKS == 1049600u, "looks");
 _Static_assert(sizeof(struct garboardle_read_answer) == 8 && sizeof(struct garboardle_write_answer) == 16, "sizes");
 _Static_assert(offsetof(struct garboardle_read_answer, line) == 2 && offsetof(struct garboardle_read_answer, nodes) == 4, "reading");
 _Static_assert(offsetof(struct garboardle_read_answer, rows) == 6 && offsetof(struct garboardle_write_answer, length) == 8, "writing");

@@ -3,7 +3,8 @@
 # turned away. Up to 28 it is the planner that is faulty, from 29 on the reader or the writer, from 57 on what edits a table,
 # from 128 on what judges a catalogue or writes of it. From 219 on it is what they make of lengths: the planner, from 239 on
 # the reader or the writer, from 244 on what edits a table. From 253 on it is what they make of full turns: the planner, from
-# 263 on what edits a table.
+# 263 on what edits a table. From 266 on it is the looks: those that the planner took, from 277 on the most of a list of rows,
+# from 287 on the most of an edited table.
 set -euo pipefail
 cd "$(dirname "$0")/.."
 planners=28
@@ -14,7 +15,10 @@ lengths_planned=238
 lengths_read=243
 lengths_edited=252
 turns_planned=262
-most=265
+turns_edited=265
+looks_taken=276
+looks_said=286
+most=289
 export CARGO_TARGET_DIR=$PWD/tests/target/wrong
 mkdir -p "$CARGO_TARGET_DIR"
 failed=0
@@ -44,8 +48,14 @@ for k in $(seq "${1:-0}" "${2:-$most}"); do
         tests="--test edit"
     elif [ "$k" -le "$turns_planned" ]; then
         tests="--test turns_worked --test refused --test small"
-    else
+    elif [ "$k" -le "$turns_edited" ]; then
         tests="--test turns_worked --test edit"
+    elif [ "$k" -le "$looks_taken" ]; then
+        tests="--test worked --test cells_worked --test turns_worked --test refused --test small"
+    elif [ "$k" -le "$looks_said" ]; then
+        tests="--test guarded --test refused"
+    else
+        tests="--test guarded --test edit"
     fi
     status=0
     PANEL_LIB=$lib timeout 300 cargo test --release --offline --locked --manifest-path tests/Cargo.toml \

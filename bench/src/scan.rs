@@ -134,14 +134,18 @@ pub fn plan(
     let mut all = [GONE; MOST_CELLS];
     let cells = &mut all[..count];
     let sends = lay(nodes, rows, cells);
-    let (mut t, mut under_way) = (0usize, count);
+    let (mut t, mut under_way, mut looks) = (0usize, count, 0);
     while under_way > 0 {
+        looks += under_way as u32;
         let chosen = match choose(cells, t as i32) {
             Ok(chosen) => chosen,
             Err(i) => {
                 plan.fill(0);
                 arrivals.fill(0);
-                return refused(9, cells[i].row, t as u16);
+                return Answer {
+                    looks,
+                    ..refused(9, cells[i].row, t as u16)
+                };
             }
         };
         let slot = &mut plan[t * n..(t + 1) * n];
@@ -183,6 +187,7 @@ pub fn plan(
         last: t as u16,
         sends,
         sum,
+        looks,
         mean,
         share,
     }

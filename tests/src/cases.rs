@@ -162,7 +162,7 @@ fn sound(nodes: u16, rows: &[Row], answer: Answer, plan: &[u16], arrivals: &[u16
         (0, Some(found)) => {
             checker::check(nodes, rows, &found)
                 .map_err(|e| tell(format!("the search's own schedule: {e}")))?;
-            checked(nodes, rows, plan, arrivals).map_err(tell)?;
+            checked(nodes, rows, answer.looks, plan, arrivals).map_err(tell)?;
             Ok("accepted")
         }
         (9, None) if answer.slot == 0 => Ok("late at once"),
@@ -173,10 +173,23 @@ fn sound(nodes: u16, rows: &[Row], answer: Answer, plan: &[u16], arrivals: &[u16
     }
 }
 
-fn checked(nodes: u16, rows: &[Row], plan: &[u16], arrivals: &[u16]) -> Result<(), String> {
-    let arrived = checker::check(nodes, rows, plan)?;
-    if arrived != arrivals {
+/// Holds an accepted table's looks, plan and arrivals to the checker.
+fn checked(
+    nodes: u16,
+    rows: &[Row],
+    looks: u32,
+    plan: &[u16],
+    arrivals: &[u16],
+) -> Result<(), String> {
+    let delivered = checker::check(nodes, rows, plan)?;
+    if delivered.rows != arrivals {
         return Err("the arrivals are not those of the plan".to_string());
+    }
+    if delivered.sum_over_cells != looks {
+        return Err(format!(
+            "{looks} looks, and the cells' delivery instants sum up to {}",
+            delivered.sum_over_cells
+        ));
     }
     checker::follows_rule(nodes, rows, plan)
 }
@@ -320,6 +333,7 @@ pub fn large(random: &mut Random) -> Result<&'static str, String> {
     checked(
         nodes,
         &rows,
+        planned.answer.looks,
         &planned.plan[..needed],
         &planned.arrivals[..count],
     )

@@ -23,11 +23,18 @@ fn go_on(n: usize, row: &Row, places: &mut Places, c: usize, p: usize) {
     places[c] = (next != row.dst as usize).then_some(next);
 }
 
-/// The delivery instants of a legal plan that meets the table, or what is wrong with it. A row's is that of its last cell.
-pub fn check(nodes: u16, rows: &[Row], plan: &[u16]) -> Result<Vec<u16>, String> {
+/// The delivery instants of the rows, each that of its last cell, and the sum of those of all cells.
+pub struct Delivered {
+    pub rows: Vec<u16>,
+    pub sum_over_cells: u32,
+}
+
+/// The deliveries of a legal plan that meets the table, or what is wrong with it.
+pub fn check(nodes: u16, rows: &[Row], plan: &[u16]) -> Result<Delivered, String> {
     let n = nodes as usize;
     let mut places = at_start(rows);
     let mut arrived = vec![0u16; rows.len()];
+    let mut sum_over_cells = 0;
     if !plan.len().is_multiple_of(n) {
         return Err(format!(
             "{} entries are no whole number of slots",
@@ -64,6 +71,7 @@ pub fn check(nodes: u16, rows: &[Row], plan: &[u16]) -> Result<Vec<u16>, String>
                     ));
                 }
                 arrived[i] = t as u16 + 1;
+                sum_over_cells += t as u32 + 1;
             }
         }
     }
@@ -78,7 +86,10 @@ pub fn check(nodes: u16, rows: &[Row], plan: &[u16]) -> Result<Vec<u16>, String>
             ));
         }
     }
-    Ok(arrived)
+    Ok(Delivered {
+        rows: arrived,
+        sum_over_cells,
+    })
 }
 
 /// Whether a legal plan sends at each node the cell that the paper's equation (1) puts first, and never idles beside one.

@@ -1,4 +1,5 @@
-//! One call of the panel's planner, held to the model: the answer, both areas whole, and what lies around them.
+//! One call of the panel's planner, held to the model: the answer, both areas whole, what lies around them, and the looks that
+//! were said in advance.
 
 use crate::model;
 use crate::panel::{self, Answer, Row};
@@ -63,6 +64,7 @@ pub fn agree(
             arrivals_model[i]
         ));
     }
+    hold_looks(nodes, &lent, answer.looks)?;
     if lent != rows {
         return Err("the lent rows have changed".to_string());
     }
@@ -73,4 +75,19 @@ pub fn agree(
         plan: plan.split_off(AROUND),
         arrivals: arrivals.split_off(AROUND),
     })
+}
+
+/// Holds the looks said in advance to the model, and those that planning took to be no more.
+fn hold_looks(nodes: u16, rows: &[Row], taken: u32) -> Result<(), String> {
+    let (most, expected) = (
+        panel::most_looks(nodes, rows),
+        model::most_looks(nodes, rows),
+    );
+    if most != expected {
+        return Err(format!("at most {most} looks, and the model {expected}"));
+    }
+    if taken > most {
+        return Err(format!("{taken} looks, and {most} were the most"));
+    }
+    Ok(())
 }

@@ -3,7 +3,7 @@
 
 use crate::area::{crosses, Area};
 use crate::edit::{Edit, Entered};
-use crate::model::entries;
+use crate::model::{self, entries};
 use crate::panel::{self, EditAnswer, Row, Table, LOADS, TABLE};
 use crate::random::Random;
 use std::fmt::{Debug, Display};
@@ -157,6 +157,10 @@ impl Desk {
         same("the planner's answer", answer, afresh).map_err(tell)?;
         same_lists("plan entry", plan.list(), &plan_afresh).map_err(tell)?;
         same_lists("arrivals entry", arrivals.list(), &arrivals_afresh).map_err(tell)?;
+        let most = panel::most_looks(nodes, &rows);
+        same("the most looks", most, model::most_looks(nodes, &rows)).map_err(tell)?;
+        let of_table = panel::most_looks_table(self.table());
+        same("the table's most looks", of_table, most).map_err(tell)?;
         plan.hold_ends().map_err(tell)?;
         arrivals.hold_ends().map_err(tell)?;
         self.hold(random).map_err(tell)?;

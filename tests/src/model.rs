@@ -56,8 +56,9 @@ impl Ring {
         (cell.due - i64::from(self.now)) - i64::from(self.to_go(at, cell.to))
     }
 
-    fn is_empty(&self) -> bool {
-        self.held.iter().all(Vec::is_empty)
+    /// The cells that are not delivered yet, each of which is one look.
+    fn undelivered(&self) -> u32 {
+        self.held.iter().map(|cells| cells.len() as u32).sum()
     }
 
     /// The lowest row of which a cell's slack is below zero.
@@ -143,9 +144,22 @@ fn unfit(nodes: u16, rows: &[Row]) -> Option<Answer> {
         .or((cells(rows) > MOST_CELLS).then_some(refused(11, 0, 0)))
 }
 
+/// The largest due slot, 0 where there are no rows.
+fn largest_due(rows: &[Row]) -> usize {
+    rows.iter().map(|r| r.due as usize).max().unwrap_or(0)
+}
+
 /// Entries that the plan of a good table has.
 pub fn entries(nodes: u16, rows: &[Row]) -> usize {
-    nodes as usize * rows.iter().map(|r| r.due as usize).max().unwrap_or(0)
+    nodes as usize * largest_due(rows)
+}
+
+/// The most looks that planning can take: every cell at every instant from 0 to the largest due slot.
+pub fn most_looks(nodes: u16, rows: &[Row]) -> u32 {
+    match unfit(nodes, rows) {
+        Some(_) => 0,
+        None => (cells(rows) * (largest_due(rows) + 1)) as u32,
+    }
 }
 
 /// The answer, with `plan` and `arrivals` as the planner leaves them.
@@ -170,11 +184,16 @@ pub fn plan(nodes: u16, rows: &[Row], plan: &mut [u16], arrivals: &mut [u16]) ->
         .iter()
         .map(|r| u32::from(ring.to_go(r.src, r.dst)) * u32::from(r.len))
         .sum();
-    while !ring.is_empty() {
+    let mut looks = 0;
+    while ring.undelivered() > 0 {
+        looks += ring.undelivered();
         if let Some(row) = ring.late() {
             plan.fill(0);
             arrivals.fill(0);
-            return refused(9, row, ring.now);
+            return Answer {
+                looks,
+                ..refused(9, row, ring.now)
+            };
         }
         let first = ring.now as usize * nodes as usize;
         let carried = ring.send(arrivals);
@@ -193,6 +212,7 @@ pub fn plan(nodes: u16, rows: &[Row], plan: &mut [u16], arrivals: &mut [u16]) ->
         last,
         sends,
         sum,
+        looks,
         mean: f64::from(sum) / rows.len() as f64,
         share: f64::from(sends) / f64::from(u32::from(nodes) * u32::from(last)),
     }

@@ -40,6 +40,7 @@ pub struct Answer {
     pub last: u16,
     pub sends: u32,
     pub sum: u32,
+    pub looks: u32,
     pub mean: f64,
     pub share: f64,
 }
@@ -55,6 +56,7 @@ impl PartialEq for Answer {
                 a.last,
                 a.sends,
                 a.sum,
+                a.looks,
                 a.mean.to_bits(),
                 a.share.to_bits(),
             )
@@ -154,6 +156,8 @@ extern "C" {
         area_len: usize,
     ) -> WriteAnswer;
 
+    pub fn garboardle_most_looks(nodes: u16, rows: *const Row, rows_len: usize) -> u32;
+
     pub fn garboardle_open(table: *mut Table, nodes: u16) -> EditAnswer;
     pub fn garboardle_add(table: *mut Table, row: Row) -> EditAnswer;
     pub fn garboardle_change(table: *mut Table, number: u16, row: Row) -> EditAnswer;
@@ -170,6 +174,8 @@ extern "C" {
         arrivals: *mut u16,
         arrivals_len: usize,
     ) -> Answer;
+
+    pub fn garboardle_most_looks_table(table: *const Table) -> u32;
 
     pub fn garboardle_catalogue(catalogue: *const u8, catalogue_len: usize) -> EditAnswer;
 
@@ -205,6 +211,11 @@ pub fn plan(nodes: u16, rows: &[Row], plan: &mut [u16], arrivals: &mut [u16]) ->
             arrivals.len(),
         )
     }
+}
+
+pub fn most_looks(nodes: u16, rows: &[Row]) -> u32 {
+    // Safe: the function asks nothing but a slice, and borrows it for the call alone.
+    unsafe { garboardle_most_looks(nodes, rows.as_ptr(), rows.len()) }
 }
 
 pub fn read(text: &[u8], rows: &mut [Row]) -> ReadAnswer {
@@ -257,6 +268,10 @@ pub fn link_load(table: &Table, link: u16) -> u16 {
 
 pub fn busiest(table: &Table) -> Link {
     unsafe { garboardle_busiest(table) }
+}
+
+pub fn most_looks_table(table: &Table) -> u32 {
+    unsafe { garboardle_most_looks_table(table) }
 }
 
 pub fn plan_table(table: &Table, plan: &mut [u16], arrivals: &mut [u16]) -> Answer {

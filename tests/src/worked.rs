@@ -55,13 +55,27 @@ pub fn accepted(nodes: u16, table: &str, plan: &[u16], arrivals: &[u16]) -> Answ
     planned.answer
 }
 
-pub fn refused(nodes: u16, table: &str, number: u16, row: u16, slot: u16) {
+/// Refused before the rule is applied: no slot is named, and no look was taken.
+pub fn refused(nodes: u16, table: &str, number: u16, row: u16) {
     assert_eq!(
         outcome(nodes, table).answer,
         Answer {
             number,
             row,
+            ..Answer::default()
+        }
+    );
+}
+
+/// Refused with 9, after so many looks.
+pub fn late(nodes: u16, table: &str, row: u16, slot: u16, looks: u32) {
+    assert_eq!(
+        outcome(nodes, table).answer,
+        Answer {
+            number: 9,
+            row,
             slot,
+            looks,
             ..Answer::default()
         }
     );

@@ -84,6 +84,11 @@ impl Tried {
         &table[LOADS..LOADS + table[0] as usize]
     }
 
+    /// The most looks that planning the area as it is can take.
+    fn most_looks(&self) -> u32 {
+        panel::most_looks_table(self.desk.table())
+    }
+
     fn busiest(&self) -> (u16, u16) {
         let Link { link, load } = panel::busiest(self.desk.table());
         (link, load)
@@ -382,6 +387,37 @@ fn editing_never_counts_the_cells_of_all_rows() {
 }
 
 #[test]
+fn the_most_looks_of_an_edited_table() {
+    let mut tried = Tried::opened(4);
+    assert_eq!(tried.most_looks(), 0);
+    assert_eq!(tried.add(block(0, 2, 5, 9)), (0, 0));
+    assert_eq!(tried.most_looks(), 5 * 10);
+    assert_eq!(tried.add(row(3, 3, 99)), (0, 0));
+    assert_eq!(tried.most_looks(), 6 * 100);
+    assert_eq!(tried.change(1, block(0, 2, 64, 1024)), (0, 0));
+    assert_eq!(tried.most_looks(), 65 * 1025);
+    assert_eq!(tried.remove(1), (0, 0));
+    assert_eq!(tried.most_looks(), 100);
+    // as many cells as there may be, and one more
+    let mut tried = Tried::with(2, &[block(0, 1, 64, 1024); 16]);
+    assert_eq!(tried.most_looks(), 1_049_600);
+    assert_eq!(tried.add(row(1, 0, 9)), (0, 0));
+    assert_eq!(tried.most_looks(), 0);
+}
+
+#[test]
+fn the_most_looks_of_a_damaged_area() {
+    assert_eq!(damaged_by(row(0, 3, 9), [5; 6]).most_looks(), 10);
+    assert_eq!(damaged_by(row(0, 4, 9), [5; 6]).most_looks(), 0);
+    // the rows are as many as it says, and no place of it is the 513th
+    let mut numbers = *Tried::with(4, &[row(0, 1, 9); 512]).desk.table();
+    for (rows, most) in [(1, 10), (511, 5_110), (512, 5_120), (513, 0), (65535, 0)] {
+        numbers[1] = rows;
+        assert_eq!(Tried::area(numbers).most_looks(), most);
+    }
+}
+
+#[test]
 fn removing_closes_the_gap() {
     let rows = [row(0, 1, 11), row(1, 3, 12), row(3, 2, 13), row(2, 0, 14)];
     for gap in 1..=4 {
@@ -442,6 +478,7 @@ fn refused_throughout(numbers: Table, number: u16) {
     }
     assert_eq!(tried.plan(100, 100), number);
     assert_eq!(tried.plan(0, 0), number);
+    assert_eq!(tried.most_looks(), 0);
     assert_eq!(tried.desk.table(), &numbers);
 }
 

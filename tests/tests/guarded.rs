@@ -142,6 +142,10 @@ fn guarded(random: &mut Random) -> Result<&'static str, String> {
     {
         return Err(format!("answers {answer:?}, and the model {expected:?}"));
     }
+    let most = panel::most_looks(nodes, lent_rows.entries());
+    if most != model::most_looks(nodes, &rows) || lent_rows.entries() != rows {
+        return Err(format!("at most {most} looks, or other rows"));
+    }
     Ok(ANSWERS[answer.number as usize])
 }
 
@@ -203,6 +207,10 @@ fn guarded_editing(random: &mut Random) -> Result<&'static str, String> {
     let expected = model::plan(area.nodes(), &rows, &mut plan, &mut arrivals);
     if answer != expected || lent_plan.entries() != plan || lent_arrivals.entries() != arrivals {
         return Err(format!("plans {answer:?}, and the model {expected:?}"));
+    }
+    let most = panel::most_looks_table(table);
+    if most != model::most_looks(area.nodes(), &rows) {
+        return Err(format!("at most {most} looks"));
     }
     let nodes = [1, 2, 32, 33][random.within(0, 3)];
     if panel::open(table, nodes) != area.open(nodes) || *table != area.0 {

@@ -3,7 +3,7 @@
 use panel_tests::cases::{each, faulty, ANSWERS};
 use panel_tests::compare::agree;
 use panel_tests::model::{cells, entries};
-use panel_tests::panel::{Answer, Row};
+use panel_tests::panel::{self, Answer, Row};
 use panel_tests::random::Random;
 
 fn row(src: u16, dst: u16, due: u16) -> Row {
@@ -65,6 +65,44 @@ fn each_number_alone() {
     assert_eq!(answer(4, &good, 35, 3), (7, 0, 0));
     assert_eq!(answer(4, &good, 36, 2), (8, 0, 0));
     assert_eq!(answer(4, &with(row(3, 2, 2)), 36, 3), (9, 2, 0));
+}
+
+/// The answer's number, the looks that planning took, and the most that were said in advance.
+fn looks(nodes: u16, rows: &[Row], plan_len: usize, arrivals_len: usize) -> (u16, u32, u32) {
+    let planned = agree(&mut Random::new(7), nodes, rows, plan_len, arrivals_len).unwrap();
+    let Answer { number, looks, .. } = planned.answer;
+    (number, looks, panel::most_looks(nodes, rows))
+}
+
+#[test]
+fn looks_of_each_number() {
+    // four cells, there at 1, at 3 and 4, and at 3
+    let good = [row(0, 1, 9), block(3, 2, 2, 11), row(1, 0, 9)];
+    let with = |r: Row| [good[0], r, good[2]];
+    assert_eq!(looks(4, &good, 44, 3), (0, 11, 4 * 12));
+    assert_eq!(looks(4, &good, 43, 3), (7, 0, 4 * 12));
+    assert_eq!(looks(4, &good, 44, 2), (8, 0, 4 * 12));
+    assert_eq!(looks(4, &with(block(3, 2, 2, 3)), 36, 3), (9, 4, 4 * 10));
+    for nodes in [0, 1, 33, 65535] {
+        assert_eq!(looks(nodes, &good, 44, 3), (1, 0, 0));
+    }
+    assert_eq!(looks(4, &[good[0]; 513], 36, 513), (2, 0, 0));
+    assert_eq!(looks(4, &with(row(4, 2, 9)), 44, 3), (3, 0, 0));
+    assert_eq!(looks(4, &with(row(3, 4, 9)), 44, 3), (4, 0, 0));
+    assert_eq!(looks(4, &with(row(3, 2, 1025)), 5000, 3), (6, 0, 0));
+    assert_eq!(looks(4, &with(block(3, 2, 65, 9)), 44, 3), (10, 0, 0));
+    assert_eq!(looks(4, &[block(3, 2, 64, 9); 17], 44, 17), (11, 0, 0));
+}
+
+#[test]
+fn the_most_looks_go_by_the_largest_due_slot() {
+    for place in 0..4 {
+        let mut rows = [row(0, 1, 7); 4];
+        rows[place] = block(2, 1, 5, 90);
+        assert_eq!(panel::most_looks(3, &rows), (3 + 5) * 91);
+        rows[place].due = 0;
+        assert_eq!(panel::most_looks(3, &rows), 0);
+    }
 }
 
 #[test]
@@ -207,6 +245,7 @@ fn as_many_cells_as_there_may_be() {
         let planned = agree(&mut Random::new(27), 2, &rows, 2048, count).unwrap();
         assert_eq!((planned.answer.number, planned.answer.last), (0, 1024));
         assert_eq!(planned.answer.sends, 1024);
+        assert_eq!(panel::most_looks(2, &rows), 1_049_600);
         // and no more: to node 2 of 3 the last cell comes a slot later
         let rows = vec![block(0, 2, len, 1024); count];
         assert_eq!(answer(3, &rows, 3072, count).0, 9);

@@ -7,10 +7,10 @@ use panel_tests::edit::{Edit, Entered};
 use panel_tests::edits::{any_area, edit_of};
 use panel_tests::panel::{
     self, garboardle_add, garboardle_busiest, garboardle_catalogue, garboardle_change,
-    garboardle_label, garboardle_link_load, garboardle_open, garboardle_plan,
-    garboardle_plan_table, garboardle_read, garboardle_remove, garboardle_row_count,
-    garboardle_row_of, garboardle_sentence, garboardle_write, Answer, ReadAnswer, Row,
-    SentenceAnswer, Table, WriteAnswer,
+    garboardle_label, garboardle_link_load, garboardle_most_looks, garboardle_most_looks_table,
+    garboardle_open, garboardle_plan, garboardle_plan_table, garboardle_read, garboardle_remove,
+    garboardle_row_count, garboardle_row_of, garboardle_sentence, garboardle_write, Answer,
+    ReadAnswer, Row, SentenceAnswer, Table, WriteAnswer,
 };
 use panel_tests::random::Random;
 use panel_tests::texts::{any_table, any_text};
@@ -175,6 +175,13 @@ fn reading_and_writing_too() {
     assert!(reading <= LIMIT && writing <= LIMIT);
 }
 
+/// The rows of a table for so many nodes: none, one or many.
+fn any_rows(random: &mut Random, nodes: u16) -> Vec<Row> {
+    let count = [0, 1, 40, 511, 512][random.within(0, 4)];
+    let dues = [Dues::Loose, Dues::Tight, Dues::Cut][random.within(0, 2)];
+    large_table(random, nodes, count, dues)
+}
+
 #[test]
 fn at_most_32_kib() {
     let mut plan = vec![0; 32 * 1024];
@@ -184,9 +191,7 @@ fn at_most_32_kib() {
     let mut random = Random::new(11);
     for round in 0..200 {
         let nodes = [2, 3, 17, 32, 33][round % 5];
-        let count = [0, 1, 40, 511, 512][random.within(0, 4)];
-        let dues = [Dues::Loose, Dues::Tight, Dues::Cut][random.within(0, 2)];
-        let mut rows = large_table(&mut random, nodes, count, dues);
+        let mut rows = any_rows(&mut random, nodes);
         if random.once_in(10) {
             rows.resize(600, Row::single(0, 1, 1));
         }
@@ -281,9 +286,7 @@ fn planning_an_edited_table_too() {
     let mut random = Random::new(25);
     for round in 0..200 {
         let nodes = [2, 3, 17, 32][round % 4];
-        let count = [0, 1, 40, 511, 512][random.within(0, 4)];
-        let dues = [Dues::Loose, Dues::Tight, Dues::Cut][random.within(0, 2)];
-        let rows = large_table(&mut random, nodes, count, dues);
+        let rows = any_rows(&mut random, nodes);
         let table = Entered { nodes, rows }.area();
         for paint in PAINTS {
             let mut answer = Answer::default();
@@ -304,6 +307,45 @@ fn planning_an_edited_table_too() {
     println!("stack: {deepest} bytes at the deepest for planning an edited table; calls by answer: {tables:?}");
     assert!(tables[0] > 0 && tables[9] > 0);
     assert!(deepest <= LIMIT);
+}
+
+/// Asks for the most looks of a list of rows.
+fn used_by_most_looks(nodes: u16, rows: &[Row], paint: u64) -> (usize, u32) {
+    let (at, length) = (rows.as_ptr() as u64, rows.len() as u64);
+    let words = [word(&[nodes], paint), at, length, 0, 0, 0];
+    let (bytes, answer) = used_by(garboardle_most_looks as _, words, paint);
+    (bytes, answer[0] as u32)
+}
+
+/// Asks for the most looks of an edited table.
+fn used_by_most_looks_table(table: &Table, paint: u64) -> (usize, u32) {
+    let words = [table.as_ptr() as u64, 0, 0, 0, 0, 0];
+    let (bytes, answer) = used_by(garboardle_most_looks_table as _, words, paint);
+    (bytes, answer[0] as u32)
+}
+
+#[test]
+fn the_most_looks_too() {
+    let mut random = Random::new(28);
+    let (mut of_rows, mut of_table, mut not_0) = (0, 0, [0; 2]);
+    for round in 0..200 {
+        let nodes = [2, 3, 17, 32, 33][round % 5];
+        let rows = any_rows(&mut random, nodes);
+        let area = any_area(&mut random);
+        for paint in PAINTS {
+            let (bytes, most) = used_by_most_looks(nodes, &rows, paint);
+            assert_eq!(most, panel::most_looks(nodes, &rows));
+            not_0[0] += usize::from(most > 0);
+            of_rows = bytes.max(of_rows);
+            let (bytes, most) = used_by_most_looks_table(&area, paint);
+            assert_eq!(most, panel::most_looks_table(&area));
+            not_0[1] += usize::from(most > 0);
+            of_table = bytes.max(of_table);
+        }
+    }
+    println!("stack: {of_rows} bytes at the deepest for the most looks, {of_table} for those of an edited table; not 0: {not_0:?}");
+    assert!(not_0[0] > 0 && not_0[1] > 0);
+    assert!(of_rows <= LIMIT && of_table <= LIMIT);
 }
 
 /// Asks for a sentence or a label; the sentence's last argument, on the stack, counts too.

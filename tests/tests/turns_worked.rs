@@ -1,7 +1,7 @@
 //! Messages from a node to itself, worked by hand: once round, over every link, and there after N moves.
 
 use panel_tests::panel::{self, Answer, Link, Row, TABLE};
-use panel_tests::worked::{accepted, outcome, refused};
+use panel_tests::worked::{accepted, late, outcome, refused};
 
 #[test]
 fn alone() {
@@ -12,6 +12,7 @@ fn alone() {
         last: 4,
         sends: 4,
         sum: 4,
+        looks: 4,
         mean: 4.0,
         share: 0.25,
     };
@@ -26,7 +27,7 @@ fn alone() {
     let loose: Vec<u16> = from_2.into_iter().chain([0; 8]).collect();
     assert_eq!(accepted(4, "2>2/6", &loose, &[4]), expected);
     for table in ["0>0/3", "2>2/3", "3>3/3", "1>1/1"] {
-        refused(4, table, 9, 1, 0);
+        late(4, table, 1, 0, 1);
     }
 }
 
@@ -34,14 +35,15 @@ fn alone() {
 fn on_two_nodes() {
     accepted(2, "0>0/2", &[1, 0, 0, 1], &[2]);
     accepted(2, "1>1/2", &[0, 1, 1, 0], &[2]);
-    refused(2, "0>0/1", 9, 1, 0);
+    late(2, "0>0/1", 1, 0, 1);
     let a = accepted(2, "0>0/2, 1>1/2", &[1, 2, 2, 1], &[2, 2]);
     assert_eq!((a.sends, a.share), (4, 1.0));
-    refused(2, "0>0/2, 1>1/2, 0>1/2", 9, 3, 2);
+    late(2, "0>0/2, 1>1/2, 0>1/2", 3, 2, 3 + 3 + 1);
     // the third cell still waits at node 0, with two links to go, as the first comes back to it
     let a = accepted(2, "0>0*3/4", &[1, 0, 1, 1, 1, 1, 0, 1], &[4]);
     assert_eq!((a.last, a.sends, a.sum, a.share), (4, 6, 4, 0.75));
-    refused(2, "0>0*3/3", 9, 1, 0);
+    assert_eq!(a.looks, 2 + 3 + 4);
+    late(2, "0>0*3/3", 1, 0, 3);
 }
 
 #[test]
@@ -55,13 +57,13 @@ fn two_from_one_node() {
         0, 2, 0, 0,
     ];
     let a = accepted(4, "2>2/5, 2>2/5", &plan, &[4, 5]);
-    assert_eq!((a.last, a.sends, a.sum), (5, 8, 9));
+    assert_eq!((a.last, a.sends, a.sum, a.looks), (5, 8, 9, 9));
     assert_eq!((a.mean, a.share), (4.5, 8.0 / 20.0));
     // the one that is due earlier goes first
     let other = plan.map(|row: u16| if row == 0 { 0 } else { 3 - row });
     let loose: Vec<u16> = other.into_iter().chain([0; 4]).collect();
     accepted(4, "2>2/6, 2>2/5", &loose, &[5, 4]);
-    refused(4, "2>2/4, 2>2/4", 9, 2, 1);
+    late(4, "2>2/4, 2>2/4", 2, 1, 2 + 2);
 }
 
 #[test]
@@ -75,9 +77,9 @@ fn one_from_each_node() {
     ];
     let table = "0>0/4, 1>1/4, 2>2/4, 3>3/4";
     let a = accepted(4, table, &plan, &[4; 4]);
-    assert_eq!((a.sends, a.share), (16, 1.0));
+    assert_eq!((a.sends, a.looks, a.share), (16, 16, 1.0));
     // every link is taken in every slot, so one link more is too many
-    refused(4, &format!("{table}, 0>1/4"), 9, 5, 4);
+    late(4, &format!("{table}, 0>1/4"), 5, 4, 4 * 5 + 1);
 }
 
 #[test]
@@ -132,8 +134,8 @@ fn blocks_that_go_round() {
     let plan = [0, 1, 0, 0, 1, 1, 1, 0, 1, 1, 0, 0];
     let a = accepted(3, "1>1*2/4", &plan, &[4]);
     assert_eq!((a.last, a.sends, a.sum), (4, 6, 4));
-    assert_eq!((a.mean, a.share), (4.0, 0.5));
-    refused(3, "1>1*2/3", 9, 1, 0);
+    assert_eq!((a.looks, a.mean, a.share), (3 + 4, 4.0, 0.5));
+    late(3, "1>1*2/3", 1, 0, 2);
     // slot 0: 1 and 2 against 1; slot 1: 1 against 0, so row 2 parts the block
     #[rustfmt::skip]
     let plan = [
@@ -146,29 +148,31 @@ fn blocks_that_go_round() {
     ];
     let a = accepted(4, "0>0*2/6, 0>2/3", &plan, &[6, 3]);
     assert_eq!((a.last, a.sends, a.sum), (6, 10, 9));
+    assert_eq!(a.looks, (4 + 6) + 3);
     assert_eq!((a.mean, a.share), (4.5, 10.0 / 24.0));
 }
 
 #[test]
 fn as_many_cells_as_there_may_be() {
-    // link 1 of 2 is free in slot 0, and carries 1,023 cells in the others
+    // link 1 of 2 is free in slot 0, and carries 1,023 cells in the others, which are there at 2 to 1,024
     let full = vec!["0>0*64/1024"; 15].join(", ");
     let answer = outcome(2, &format!("{full}, 0>0*63/1024")).answer;
+    let looks = 1024 * 1025 / 2 - 1;
     assert_eq!((answer.number, answer.last), (0, 1024));
-    assert_eq!(answer.sends, 2046);
-    let answer = outcome(2, &format!("{full}, 0>0*64/1024")).answer;
-    assert_eq!(answer.number, 9);
-    refused(2, &format!("{full}, 0>0*64/1024, 1>1/2"), 11, 0, 0);
+    assert_eq!((answer.sends, answer.looks), (2046, looks));
+    // one cell more has not left its node at 1,023, and was looked at 1,024 times
+    late(2, &format!("{full}, 0>0*64/1024"), 16, 1023, looks + 1024);
+    refused(2, &format!("{full}, 0>0*64/1024, 1>1/2"), 11, 0);
 }
 
 #[test]
 fn what_is_refused() {
-    refused(4, "4>4/9", 3, 1, 0);
-    refused(4, "3>3*0/9", 10, 1, 0);
-    refused(4, "3>3*65/0", 10, 1, 0);
-    refused(4, "3>3/0", 6, 1, 0);
-    refused(4, "0>0/1025", 6, 1, 0);
-    refused(4, "1>1/9, 0>4/9", 4, 2, 0);
+    refused(4, "4>4/9", 3, 1);
+    refused(4, "3>3*0/9", 10, 1);
+    refused(4, "3>3*65/0", 10, 1);
+    refused(4, "3>3/0", 6, 1);
+    refused(4, "0>0/1025", 6, 1);
+    refused(4, "1>1/9, 0>4/9", 4, 2);
 }
 
 /// A block alone leaves its node cell by cell, and its cells keep a link's distance all the way round.
@@ -192,10 +196,12 @@ fn every_node_of_every_ring() {
                 );
                 let sends = u32::from(nodes * len);
                 assert_eq!((a.last, a.sends, a.sum), (last, sends, last.into()));
+                assert_eq!(a.looks, (nodes..=last).map(u32::from).sum());
                 let share = f64::from(sends) / f64::from(nodes * last);
                 assert_eq!((a.mean, a.share), (last.into(), share));
                 let hurried = last - 1;
-                refused(nodes, &format!("{node}>{node}*{len}/{hurried}"), 9, 1, 0);
+                let table = format!("{node}>{node}*{len}/{hurried}");
+                late(nodes, &table, 1, 0, len.into());
                 crosses_every_link(
                     nodes,
                     Row {

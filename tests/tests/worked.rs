@@ -1,7 +1,8 @@
 //! The worked tables: document 01's sweep table, and the examples of the paper (sections 2 and 3) that have a table here.
 
 use panel_tests::panel::{Answer, Row};
-use panel_tests::worked::{accepted, outcome, refused};
+use panel_tests::worked::{accepted, late, outcome, refused};
+use std::mem::offset_of;
 
 #[test]
 fn the_sweep_table() {
@@ -20,6 +21,7 @@ fn the_sweep_table() {
             last: 2,
             sends: 3,
             sum: 4,
+            looks: 4,
             mean: 2.0,
             share: 0.375
         }
@@ -39,22 +41,27 @@ fn the_sweep_table() {
             last: 3,
             sends: 4,
             sum: 5,
+            looks: 5,
             mean: 2.5,
             share: 4.0 / 12.0
         }
     );
-    accepted(4, "2>0/2, 2>3/2", &[0, 0, 1, 0, 0, 0, 2, 1], &[2, 2]);
-    refused(4, "0>1/1, 0>1/1", 9, 2, 1);
-    refused(4, "0>2/1", 9, 1, 0);
-    accepted(2, "1>0/3, 1>0/3, 1>0/3", &[0, 1, 0, 2, 0, 3], &[1, 2, 3]);
-    refused(2, "1>0/2, 1>0/2, 1>0/2", 9, 3, 2);
+    let c = accepted(4, "2>0/2, 2>3/2", &[0, 0, 1, 0, 0, 0, 2, 1], &[2, 2]);
+    assert_eq!(c.looks, 4);
+    // two cells at instant 0, and the one that stayed at instant 1
+    late(4, "0>1/1, 0>1/1", 2, 1, 3);
+    late(4, "0>2/1", 1, 0, 1);
+    let f = accepted(2, "1>0/3, 1>0/3, 1>0/3", &[0, 1, 0, 2, 0, 3], &[1, 2, 3]);
+    assert_eq!(f.looks, 6);
+    late(2, "1>0/2, 1>0/2, 1>0/2", 3, 2, 3 + 2 + 1);
     assert_eq!(accepted(4, "", &[], &[]), Answer::default());
-    refused(4, "0>0/1025", 6, 1, 0);
-    refused(2, "0>1/1025", 6, 1, 0);
+    refused(4, "0>0/1025", 6, 1);
+    refused(2, "0>1/1025", 6, 1);
     let mut plan = vec![0; 2048];
     plan[0] = 1;
-    accepted(2, "0>1/1024", &plan, &[1]);
-    refused(33, "40>40/0", 1, 0, 0);
+    let k = accepted(2, "0>1/1024", &plan, &[1]);
+    assert_eq!(k.looks, 1);
+    refused(33, "40>40/0", 1, 0);
 }
 
 /// Section 2, example 1 and table 1: farthest destination first, which is least slack with one due slot for all. The two
@@ -73,7 +80,7 @@ fn the_paper_s_table_1() {
     ];
     let a = accepted(5, table, &plan, &[4, 5, 2, 4, 4]);
     // the evacuation time and the average delay that section 2 defines
-    assert_eq!((a.last, a.sends, a.sum), (5, 12, 19));
+    assert_eq!((a.last, a.sends, a.sum, a.looks), (5, 12, 19, 19));
     assert_eq!((a.mean, a.share), (19.0 / 5.0, 12.0 / 25.0));
     // with M12's delivery at 5 as the due slot of all, the last slot has none to spare; with 4 there is no schedule
     let a = accepted(5, &table.replace("/6", "/5"), &plan[..25], &[4, 5, 2, 4, 4]);
@@ -116,5 +123,13 @@ fn the_paper_s_equation_1() {
 #[test]
 fn the_declared_layout() {
     assert_eq!((size_of::<Row>(), align_of::<Row>()), (8, 2));
-    assert_eq!((size_of::<Answer>(), align_of::<Answer>()), (32, 8));
+    assert_eq!((size_of::<Answer>(), align_of::<Answer>()), (40, 8));
+    assert_eq!(
+        (offset_of!(Answer, sum), offset_of!(Answer, looks)),
+        (12, 16)
+    );
+    assert_eq!(
+        (offset_of!(Answer, mean), offset_of!(Answer, share)),
+        (24, 32)
+    );
 }

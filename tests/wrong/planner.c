@@ -1,10 +1,19 @@
-/* A planner in C with the fault that WRONG names, up to 28, from 219 on and from 253 on, and with none else. The tests must
-   turn away every fault. */
+/* A planner in C, and the most looks that it can take, with the fault that WRONG names, up to 28, from 219 on, from 253 on and
+   from 266 on, and with none else. The tests must turn away every fault. */
 #include "garboardle.h"
 
 static struct garboardle_answer refused(unsigned number, unsigned row, unsigned slot)
 {
-    struct garboardle_answer a = {(uint16_t)number, (uint16_t)row, (uint16_t)slot, 0, 0, 0, 0.0, 0.0};
+    struct garboardle_answer a = {(uint16_t)number, (uint16_t)row, (uint16_t)slot, 0, 0, 0, 0, 0.0, 0.0};
+    return a;
+}
+
+/* Refused since an area is too short, with the most looks that planning could have taken. */
+static struct garboardle_answer too_short(unsigned number, size_t most)
+{
+    struct garboardle_answer a = refused(number, 0, 0);
+    if ((WRONG == 266 && number == 7) || (WRONG == 267 && number == 8)) /* 266, 267: they are reported, though none was taken */
+        a.looks = (uint32_t)most;
     return a;
 }
 
@@ -134,6 +143,15 @@ static int is_there(struct cell c, unsigned t, unsigned n)
     return WRONG == 255 && t == 0 && c.turn;
 }
 
+/* The looks of one instant: its undelivered cells. */
+static uint32_t looks_at(const struct cell *cells, int count)
+{
+    uint32_t looks = 0;
+    for (int i = 0; i < count; i++)
+        looks += (cells[i].left > 0 || WRONG == 268) && (cells[i].last || WRONG != 269); /* 268: delivered ones too; 269: rows */
+    return looks;
+}
+
 struct garboardle_answer garboardle_plan(uint16_t nodes, const struct garboardle_row *rows, size_t rows_len,
                                          uint16_t *plan, size_t plan_len, uint16_t *arrivals, size_t arrivals_len)
 {
@@ -175,15 +193,15 @@ struct garboardle_answer garboardle_plan(uint16_t nodes, const struct garboardle
     for (size_t i = 0; i < rows_len; i++)
         count += lay(cells + count, (int)i, rows[i], n);
     under_way = count;
-    size_t needed = n * latest, filled = needed;
+    size_t needed = n * latest, filled = needed, most = total * (latest + 1);
 #if WRONG == 10 /* 8 before 7 */
     if (arrivals_len < rows_len)
         return refused(8, 0, 0);
 #endif
     if (plan_len < needed + (WRONG == 11)) /* 11: one entry more is asked for */
-        return refused(7, 0, 0);
+        return too_short(7, most);
     if (arrivals_len < rows_len)
-        return refused(8, 0, 0);
+        return too_short(8, most);
 #if WRONG == 12 /* an entry past the plan's is cleared too */
     filled = needed < plan_len ? needed + 1 : needed;
 #elif WRONG == 27 /* the same, even where the area ends there */
@@ -197,6 +215,7 @@ struct garboardle_answer garboardle_plan(uint16_t nodes, const struct garboardle
         plan[k] = 0;
 
     unsigned t = 0, last = 0;
+    uint32_t looks = WRONG == 270 ? 1 : 0; /* 270: one too many */
     for (; under_way > 0; t++) {
         for (int i = 0; i < count; i++)
             if (is_there(cells[i], t, n)) {
@@ -205,6 +224,8 @@ struct garboardle_answer garboardle_plan(uint16_t nodes, const struct garboardle
                     arrivals[cells[i].row] = (uint16_t)t;
                 under_way--;
             }
+        uint32_t looks_before = looks;
+        looks += WRONG == 271 && t == 0 ? 0 : looks_at(cells, count); /* 271: none at instant 0 */
         int late = -1;
         for (int i = count - 1; i >= 0; i--)
             if (is_late(cells[i], t, n) && (WRONG != 233 || cells[i].last)) /* 233: only a row's last cell is late */
@@ -222,7 +243,9 @@ struct garboardle_answer garboardle_plan(uint16_t nodes, const struct garboardle
                 plan[k] = 0;
             for (size_t i = 0; i < rows_len && WRONG != 19; i++) /* 19: the same of the arrivals */
                 arrivals[i] = 0;
-            return refused(9, (unsigned)late + 1, WRONG == 20 ? t + 1 : t); /* 20: one instant more */
+            struct garboardle_answer a = refused(9, (unsigned)late + 1, WRONG == 20 ? t + 1 : t); /* 20: one instant more */
+            a.looks = WRONG == 272 ? 0 : WRONG == 273 ? looks_before : looks; /* 272: none; 273: without the late instant */
+            return a;
         }
         for (unsigned p = 0; p < n; p++) {
             chosen[p] = -1;
@@ -260,7 +283,7 @@ struct garboardle_answer garboardle_plan(uint16_t nodes, const struct garboardle
     if (rows_len == 0)
         return refused(0, 0, 0);
     /* 238: the mean over cells */
-    struct garboardle_answer a = {0, 0, 0, (uint16_t)last, sends, sum, (double)sum / (double)(WRONG == 238 ? total : rows_len), (double)sends / (double)(n * last)};
+    struct garboardle_answer a = {0, 0, 0, (uint16_t)last, sends, sum, looks, (double)sum / (double)(WRONG == 238 ? total : rows_len), (double)sends / (double)(n * last)};
 #if WRONG == 23 /* rounded twice */
     a.mean = (float)a.mean;
 #elif WRONG == 24 /* the share of all slots up to the largest due one */
@@ -269,6 +292,61 @@ struct garboardle_answer garboardle_plan(uint16_t nodes, const struct garboardle
     a.sends++;
 #elif WRONG == 26 /* the quotient by way of an inverse */
     a.share = (double)sends * (1.0 / (double)(n * last));
+#elif WRONG == 274 /* each cell at its delivery instant too */
+    a.looks += (uint32_t)count;
+#elif WRONG == 275 /* the most looks, not those taken */
+    a.looks = (uint32_t)most;
+#elif WRONG == 276 /* looks of 16 bits */
+    a.looks = (uint16_t)a.looks;
 #endif
     return a;
+}
+
+/* Whether planning gives this number whatever areas are lent, so that there are no looks. */
+static int is_refused(unsigned number)
+{
+#if WRONG == 277 /* looks though the ring is none */
+    if (number == 1)
+        return 0;
+#elif WRONG == 278 /* though there are too many rows */
+    if (number == 2)
+        return 0;
+#elif WRONG == 279 /* though a row is wrong */
+    return number == 1 || number == 2 || number == 11;
+#elif WRONG == 280 /* though there are too many cells */
+    if (number == 11)
+        return 0;
+#endif
+    return number != 0 && number != 7 && number != 8;
+}
+
+uint32_t garboardle_most_looks(uint16_t nodes, const struct garboardle_row *rows, size_t rows_len)
+{
+    uint16_t plan, arrivals;
+    uint32_t cells = 0, latest = 0;
+    if (WRONG == 281 && rows_len > 0) /* 281: without the last row */
+        rows_len--;
+    if (is_refused(garboardle_plan(nodes, rows, rows_len, &plan, 0, &arrivals, 0).number))
+        return 0;
+    for (size_t i = 0; i < rows_len; i++) {
+        cells += WRONG == 282 ? 1 : rows[i].len;              /* 282: rows */
+        if (rows[i].due > latest && (WRONG != 283 || i == 0)) /* 283: the first row's due slot */
+            latest = rows[i].due;
+    }
+    if (WRONG == 284 && *(const volatile uint16_t *)&rows[rows_len].src == 12345) /* 284: a look past the rows */
+        return 0;
+    uint32_t most = cells * (latest + (WRONG != 285)); /* 285: without the last instant */
+    return WRONG == 286 ? (uint16_t)most : most;       /* 286: in 16 bits */
+}
+
+uint32_t garboardle_most_looks_table(const struct garboardle_table *t)
+{
+    size_t rows = t->rows;
+    if (WRONG == 287) /* 287: all places of the area */
+        rows = 512;
+    if (WRONG == 288 && rows > 512) /* 288: the first 512 rows of an area that has too many */
+        rows = 512;
+    if (WRONG == 289 && *(const volatile uint16_t *)(t + 1) == 12345) /* 289: a look past the area */
+        return 0;
+    return garboardle_most_looks(t->nodes, t->row, rows);
 }

@@ -11,13 +11,14 @@ use Rattle.lists.specs.Lists.{total, largest}
 use Rattle.ring.specs.Ring.{distance, standing}
 use Rattle.slack.specs.Slack.{underWay, place, slackOf, slack, isLate, lateFrom, lateRow, better, pick, slotOf, moved}
 use Rattle.slack.specs.Slack.{stateAt, planOf, deliveredFrom, arrivalsOf, anyUnderWay, stopFrom, stopOf}
-use Rattle.optimal.specs.Schedule.{namedIn}
+use Rattle.optimal.specs.Schedule.{namedIn, busy}
 use Rattle.optimal.proofs.Count.{find, both-decided}
 use Rattle.optimal.proofs.Tests.{alike, all-below, row-named, all-three, some-below, Says, as-decided}
 use Rattle.cells.specs.Rows.{firstThat, Freight, freight, perCell, ownersOf, owners, laidOut, cellLinks, road}
 use Rattle.cells.specs.Rows.{waits, earliest, carried, cellsLeft, LegalRows, MeetsRows, RowSchedule}
 use Rattle.cells.specs.Cells.{duesOf, cellDues, cellTraffic, ownerOf, toldBy, rowPlan}
 use Rattle.cells.specs.Cells.{endBy, rowStop, ofLastCells, rowArrivals}
+use Rattle.cells.specs.Looks.{looksTo, looksOf, rowLooks}
 use Rattle.cells.proofs.Tests.{follows, holds-decided, delivered-decided}
 use Rattle.cells.proofs.Tests.{legal-rows-decided, meets-rows-decided, row-schedule-decided}
 
@@ -131,12 +132,12 @@ row-schedules-computed = refl
 row-schedules-as-said : Each cases
 row-schedules-as-said = rw row-schedules-computed at (holds cases)
 
--- What the rule makes of a table: the row and the instant at which its run ends, its plan told in rows, and each row's
--- arrival, over the largest due slot.
+-- What the rule makes of a table: the row and the instant at which its run ends, its looks, its plan told in rows, and
+-- each row's arrival, over the largest due slot.
 abbrev outcome : Freight → List (List ℕ)
 outcome F =
     let slots = largest (F .due) in
-    (rowStop F slots .row ∷ rowStop F slots .slot .0 ∷ []) ∷ rowPlan F slots ∷ rowArrivals F slots ∷ []
+    (rowStop F slots .row ∷ rowStop F slots .slot .0 ∷ rowLooks F slots ∷ []) ∷ rowPlan F slots ∷ rowArrivals F slots ∷ []
 
 -- Two cells over two links; two cells once round a ring of two, named on both links in slot 1; two rows that share a
 -- link; three cells of which the first two are due at 0 or before; a second row with a late cell.
@@ -147,15 +148,15 @@ outcomes-computed : map outcome (
     ∷ freight 2 (1 ∷ []) (3 ∷ []) (1 ∷ []) (1 ∷ [])
     ∷ freight 2 (1 ∷ 1 ∷ []) (2 ∷ 2 ∷ []) (3 ∷ 3 ∷ []) (1 ∷ 1 ∷ [])
     ∷ [])
-    ≡ (((0 ∷ 3 ∷ []) ∷ (1 ∷ 0 ∷ 0 ∷ 0 ∷ 1 ∷ 1 ∷ 0 ∷ 0 ∷ 0 ∷ 1 ∷ 0 ∷ 0 ∷ []) ∷ (3 ∷ []) ∷ [])
-    ∷ ((0 ∷ 3 ∷ []) ∷ (1 ∷ 0 ∷ 1 ∷ 1 ∷ 0 ∷ 1 ∷ []) ∷ (3 ∷ []) ∷ [])
-    ∷ ((0 ∷ 4 ∷ [])
+    ≡ (((0 ∷ 3 ∷ 5 ∷ []) ∷ (1 ∷ 0 ∷ 0 ∷ 0 ∷ 1 ∷ 1 ∷ 0 ∷ 0 ∷ 0 ∷ 1 ∷ 0 ∷ 0 ∷ []) ∷ (3 ∷ []) ∷ [])
+    ∷ ((0 ∷ 3 ∷ 5 ∷ []) ∷ (1 ∷ 0 ∷ 1 ∷ 1 ∷ 0 ∷ 1 ∷ []) ∷ (3 ∷ []) ∷ [])
+    ∷ ((0 ∷ 4 ∷ 8 ∷ [])
     ∷ (1 ∷ 0 ∷ 0 ∷ 0 ∷ 2 ∷ 0 ∷ 0 ∷ 0 ∷ 1 ∷ 2 ∷ 0 ∷ 0 ∷ 0 ∷ 0 ∷ 2 ∷ 0 ∷ []) ∷ (3 ∷ 4 ∷ []) ∷ [])
-    ∷ ((1 ∷ 0 ∷ []) ∷ (1 ∷ 0 ∷ []) ∷ (1 ∷ []) ∷ [])
-    ∷ ((2 ∷ 3 ∷ []) ∷ (1 ∷ 0 ∷ 2 ∷ 0 ∷ 1 ∷ 0 ∷ []) ∷ (3 ∷ 3 ∷ []) ∷ [])
+    ∷ ((1 ∷ 0 ∷ 3 ∷ []) ∷ (1 ∷ 0 ∷ []) ∷ (1 ∷ []) ∷ [])
+    ∷ ((2 ∷ 3 ∷ 10 ∷ []) ∷ (1 ∷ 0 ∷ 2 ∷ 0 ∷ 1 ∷ 0 ∷ []) ∷ (3 ∷ 3 ∷ []) ∷ [])
     ∷ [])
 unfolding total largest standing underWay place slackOf slack isLate lateFrom lateRow better pick slotOf moved stateAt
     planOf deliveredFrom arrivalsOf anyUnderWay stopFrom stopOf perCell ownersOf owners laidOut cellLinks
     duesOf cellDues cellTraffic ownerOf toldBy rowPlan endBy rowStop ofLastCells
-    rowArrivals
+    rowArrivals busy looksTo looksOf rowLooks
 outcomes-computed = refl

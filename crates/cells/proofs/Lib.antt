@@ -3,3 +3,4 @@ pub mod Laying
 pub mod Telling
 pub mod Tests
 mod Cases
+pub mod Looking

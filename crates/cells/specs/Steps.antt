@@ -1,7 +1,9 @@
 -- What single steps of the code ask and do. Nothing here has to be believed.
 use Prim.Native.Nat.{ℕ, suc, _-_, _*_, _≤_, _<_}
 use mathlib.Core.Path.{_≡_}
+use mathlib.Core.Bool.{cond}
 use mathlib.Core.List.{List, _++_}
+use lib.Dec.{eqb}
 use lib.ListN.{length, getD, take, drop}
 use Rattle.lists.specs.Lists.{build, total}
 use Rattle.cells.specs.Rows.{Freight, ownersOf, laidOut}
@@ -38,6 +40,11 @@ pub record Laid (len dst due links cell-dst cell-due owner left : List ℕ) : Ty
   pub due-is : cell-due ≡ duesOf len due
   pub owner-is : owner ≡ ownersOf len
   pub left-is : left ≡ laidOut len links
+
+-- The looks of a run that ends at instant t, from what it leaves: a delivered cell was looked at as often as its stamp
+-- says, and one that is not at every instant up to and with t.
+unfoldable pub looksBy : (t : ℕ) → (left stamps : List ℕ) → ℕ
+looksBy t left stamps = total (build (length left) (λ i. cond (eqb (getD left i 0) 0) (getD stamps i 0) (suc t)))
 
 -- No entry is above m.
 abbrev pub AtMost : ℕ → List ℕ → Type 0

@@ -1,12 +1,15 @@
 // Rows of several cells. Before a run each column of the rows is laid out over their cells; a slot that names cells is
-// told in rows, and a row arrives with its last cell.
+// told in rows, a row arrives with its last cell, and the looks are counted from what a run left.
 ghost use mathlib.Core.Path.{_≡_};
-ghost use Prim.Native.Nat.{_-_, _≤_};
+ghost use Prim.Native.Nat.{_-_, _≤_, _<_, _^_};
+ghost use mathlib.Core.Bool.{cond};
+ghost use lib.Dec.{eqb};
 ghost use lib.ListN.{length};
 ghost use Rattle.lists.specs.Lists.{total};
 ghost use Rattle.cells.specs.Cells.{ownerOf, toldBy, ofLastCells};
-ghost use Rattle.cells.specs.Steps.{falling, written, Open, Laid, AtMost, AboveZero};
+ghost use Rattle.cells.specs.Steps.{falling, written, Open, Laid, looksBy, AtMost, AboveZero};
 use lists::lower;
+use ring::Slot;
 
 // Writes the cells of one row: the last has the row's number, and each one before it `step` less, 0 where that would be
 // below 0.
@@ -89,4 +92,30 @@ pub fn gather_last(len: &[u16], cells: &[u16], rows: &mut [u16])
         rows[i] = cells[next - 1];
         i += 1;
     }
+}
+
+// How often a cell was looked at that has so many links left and was last stamped so: at all instants if it has any.
+fn looks_at(all: u32, left: u16, stamp: u16) -> u32
+    requires { ⌜ all ≤ 65536 ⌝ }
+    ensures { λ r. ⌜ (r ≡ cond (eqb left 0) stamp all) × (r ≤ 65536) ⌝ }
+{
+    if left == 0 {
+        return stamp as u32;
+    }
+    all
+}
+
+// The looks of a run that ended at instant t, counted from what it left.
+pub fn count_looks(t: Slot, left: &[u16], stamps: &[u16]) -> u32
+    requires { ⌜ (length (now stamps) ≡ length (now left)) × (length (now left) < 2 ^ 16) ⌝ }
+    ensures { λ r. ⌜ r ≡ looksBy (t .0) (now (left .entry)) (now (stamps .entry)) ⌝ }
+{
+    let all = t.0 as u32 + 1;
+    let mut looks = 0u32;
+    let mut i = 0;
+    while i < left.len() {
+        looks += looks_at(all, left[i], stamps[i]);
+        i += 1;
+    }
+    looks
 }

@@ -1,4 +1,5 @@
 -- Answers as plain numbers, as the panel's functions give them to C and Rust.
+use Prim.Native.Nat.{ℕ}
 use lib.Ieee.{binary64, ofBits}
 use Rattle.table.specs.declared.Verdict.{Verdict}
 use Rattle.table.specs.declared.Verdict.the-variants.{Good, Refused as NotGood}
@@ -19,9 +20,10 @@ use Rattle.flat.specs.declared.ReadAnswer.{ReadAnswer}
 use Rattle.flat.specs.declared.WriteAnswer.{WriteAnswer}
 use Rattle.flat.specs.declared.SentenceAnswer.{SentenceAnswer}
 
--- An answer as plain numbers: an acceptance has number, row and slot 0, and a refusal has every figure 0.
-unfoldable pub flatOf : Answer → PlanAnswer
-flatOf (Accepted s) =
+-- An answer and its looks as plain numbers: an acceptance has number, row and slot 0, and a refusal has every other
+-- figure 0.
+unfoldable pub flatOf : Answer → (looks : ℕ) → PlanAnswer
+flatOf (Accepted s) looks =
     record {
       number = 0;
       row = 0;
@@ -29,11 +31,11 @@ flatOf (Accepted s) =
       last = s .last .0;
       sends = s .sends;
       sum = s .sum;
+      looks = looks;
       mean = s .mean;
-      share =
-          s .share;
+      share = s .share;
     }
-flatOf (Refused r) =
+flatOf (Refused r) looks =
     record {
       number = r .number;
       row = r .row;
@@ -41,6 +43,7 @@ flatOf (Refused r) =
       last = 0;
       sends = 0;
       sum = 0;
+      looks = looks;
       mean = ofBits binary64 0;
       share = ofBits binary64 0;
     }

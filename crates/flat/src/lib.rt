@@ -10,7 +10,8 @@ use table::Verdict;
 use text::Reading;
 use text::Writing;
 
-// The planner's answer as plain numbers: `number` is 0 for an acceptance and a refusal's own otherwise.
+// The planner's answer as plain numbers: `number` is 0 for an acceptance and a refusal's own otherwise. A late table
+// has `looks` too.
 #[repr(C)]
 pub struct PlanAnswer {
     pub number: u16,
@@ -19,6 +20,7 @@ pub struct PlanAnswer {
     pub last: u16,
     pub sends: u32,
     pub sum: u32,
+    pub looks: u32,
     pub mean: f64,
     pub share: f64,
 }
@@ -79,9 +81,9 @@ pub struct SentenceAnswer {
     pub length: usize,
 }
 
-// An answer, flattened.
-pub fn flat_answer(a: Answer) -> PlanAnswer
-    ensures { λ r. ⌜ r ≡ flatOf a ⌝ }
+// An answer and the looks that it took, flattened.
+pub fn flat_answer(a: Answer, looks: u32) -> PlanAnswer
+    ensures { λ r. ⌜ r ≡ flatOf a looks ⌝ }
 {
     match a {
         Answer::Accepted(s) => PlanAnswer {
@@ -91,6 +93,7 @@ pub fn flat_answer(a: Answer) -> PlanAnswer
             last: s.last.0,
             sends: s.sends,
             sum: s.sum,
+            looks,
             mean: s.mean,
             share: s.share,
         },
@@ -101,6 +104,7 @@ pub fn flat_answer(a: Answer) -> PlanAnswer
             last: 0,
             sends: 0,
             sum: 0,
+            looks,
             mean: 0.0,
             share: 0.0,
         },

@@ -15,7 +15,8 @@ use mathlib.Core.List.{List, [], _++_}
 use lib.ListN.{length, drop}
 use Rattle.table.specs.declared.Row.{Row}
 use Rattle.planner.specs.declared.Answer.{Answer}
-use Rattle.planner.specs.Planner.{Planned, areaAfter, thePlan, theArrivals}
+use Rattle.planner.specs.declared.Reply.{Reply}
+use Rattle.planner.specs.Planner.{Planned, looksAfter, areaAfter, thePlan, theArrivals, theLooks}
 use Rattle.text.specs.declared.Parsed.{Parsed}
 use Rattle.text.specs.declared.Writing.{Writing}
 use Rattle.text.specs.Text.{TextParsed, TextPut}
@@ -42,10 +43,12 @@ use Rattle.panel.specs.declared.FlatParsed.{FlatParsed}
 use Rattle.panel.specs.Steps.{FlatRead}
 use Rattle.panel.specs.Panel.{PanelPlanned, PanelRead, PanelWritten, PanelOpened, PanelEdited, PanelPut}
 
-pub flat-planned : (n : ℕ) (rows : List Row) {p a p′ a′ : List ℕ} {r : Answer} {s : PlanAnswer}
-    → Planned n rows p a r p′ a′ → s ≡ flatOf r → PanelPlanned n rows p a s p′ a′
-flat-planned n rows {p} {a} d e = record {
-  answers = e ∙ ap flatOf (d .answers);
+pub flat-planned : (n : ℕ) (rows : List Row) {p a p′ a′ : List ℕ} {r : Reply} {s : PlanAnswer}
+    → Planned n rows p a r p′ a′ → s ≡ flatOf (r .answer) (r .looks) → PanelPlanned n rows p a s p′ a′
+flat-planned n rows {p} {a} {r = r} d e = record {
+  answers =
+      e ∙ ap (flatOf (r .answer)) (d .looked)
+      ∙ ap (λ (x : Answer). flatOf x (looksAfter x (theLooks n rows))) (d .answers);
   fills-plan = d .fills-plan ∙ ap (λ (x : Answer). areaAfter x (thePlan n rows) p) (d .answers);
   fills-arrivals = d .fills-arrivals ∙ ap (λ (x : Answer). areaAfter x (theArrivals n rows) a) (d .answers);
 }
@@ -60,8 +63,12 @@ held-planned n columns e holds d = rw (e, holds) at d
 pub loaded-flat : (n : ℕ) (rows : List Row) {p a p′ a′ : List ℕ} {s : PlanAnswer}
     → PanelPlanned n (listed (length rows) (columns rows)) p a s p′ a′ → PanelPlanned n rows p a s p′ a′
 loaded-flat n rows d =
-    flat-planned n rows (loaded-planned n rows
-    (record { answers = refl; fills-plan = d .fills-plan; fills-arrivals = d .fills-arrivals })) (d .answers)
+    flat-planned n rows (loaded-planned n rows (record {
+      answers = refl;
+      looked = refl;
+      fills-plan = d .fills-plan;
+      fills-arrivals = d .fills-arrivals;
+    })) (d .answers)
 
 pub flat-written : {n : ℕ} {rows : List Row} {area area′ : List ℕ} {r : Writing} {s : WriteAnswer}
     → TextPut n rows area r area′ → s ≡ flatWriting r → PanelWritten n rows area s area′

@@ -6,7 +6,7 @@
 -- Each goes through all the refusals of what an entry point promises, so a new refusal without a key in the catalogue
 -- fails here.
 -- Assumes nothing.
-use mathlib.Core.Path.{refl}
+use mathlib.Core.Path.{_≡_, refl}
 use mathlib.Core.Bool.{Bool, cond, _||_}
 use mathlib.Core.List.{List, [], _∷_}
 use Prim.Native.Nat.{ℕ, suc}
@@ -19,7 +19,9 @@ use Rattle.table.specs.declared.Verdict.the-variants.{Good, Refused}
 use Rattle.table.specs.Table.{most-rows, latest-due, most-length, most-cells, rowRefusal, judgeRows, cellsIn, afterRows}
 use Rattle.table.specs.Table.{judgeAll, judge}
 use Rattle.planner.specs.declared.Answer.{Answer}
-use Rattle.planner.specs.Planner.{planRoom, ending, answerToRows, afterVerdict, theAnswer}
+use Rattle.planner.specs.declared.Answer.the-variants.{Accepted, Refused as Turned}
+use Rattle.planner.specs.Planner.{planRoom, ending, theLooks, answerToRows, afterVerdict, theAnswer, numberOf}
+use Rattle.planner.specs.Planner.{looksAfter}
 use Rattle.text.specs.declared.Reading.{Reading}
 use Rattle.text.specs.declared.Writing.{Writing}
 use Rattle.text.specs.declared.Writing.the-variants.{Written, Refused as NotWritten}
@@ -44,7 +46,7 @@ use Rattle.panel.specs.Panel.{PanelPlanned, PanelRead, PanelWritten, Pan
 
 -- An answer and a reading whose number has a sentence.
 abbrev ToldAnswer : Answer → Type 0
-ToldAnswer a = Told (flatOf a .number)
+ToldAnswer a = Told (numberOf a)
 
 abbrev ToldReading : Reading → Type 0
 ToldReading r = Told (flatReading r .number)
@@ -82,15 +84,21 @@ table-told n rows =
     (either ToldVerdict (ltb most-rows (length rows)) refl
     (cells-told (judgeRows n rows 0) (cellsIn rows) (rows-told n rows 0)))
 
+-- Flattened, an answer keeps its number.
+flat-number : (a : Answer) (looks : ℕ) → flatOf a looks .number ≡ numberOf a
+unfolding flatOf numberOf
+flat-number (Accepted s) looks = refl
+flat-number (Turned r) looks = refl
+
 -- The answer to a table.
 after-told : (v : Verdict) (next : Answer) → ToldVerdict v → ToldAnswer next → ToldAnswer (afterVerdict v next)
-unfolding afterVerdict ToldVerdict flatOf
+unfolding afterVerdict ToldVerdict numberOf
 after-told Good next t u = u
 after-told (Refused r) next t u = t
 
 answer-told : (n : ℕ) (rows : List Row) (plan-lent arrivals-lent : ℕ)
     → ToldAnswer (theAnswer n rows plan-lent arrivals-lent)
-unfolding theAnswer answerToRows flatOf isIn firstPlace
+unfolding theAnswer answerToRows numberOf isIn firstPlace
 answer-told n rows plan-lent arrivals-lent =
     after-told (judge n rows) (answerToRows n rows plan-lent arrivals-lent) (table-told n rows)
     (either ToldAnswer (ltb plan-lent (planRoom n rows)) refl
@@ -100,7 +108,9 @@ answer-told n rows plan-lent arrivals-lent =
 -- Whatever planning answers has a sentence.
 pub plan-has-sentence : {n : ℕ} {rows : List Row} {p a p′ a′ : List ℕ} {r : PlanAnswer}
     → PanelPlanned n rows p a r p′ a′ → Told (r .number)
-plan-has-sentence {n} {rows} {p} {a} d = rw (d .answers) (answer-told n rows (length p) (length a))
+plan-has-sentence {n} {rows} {p} {a} d =
+    let answer = theAnswer n rows (length p) (length a) in
+    rw (d .answers, flat-number answer (looksAfter answer (theLooks n rows))) (answer-told n rows (length p) (length a))
 
 -- ---- the text
 -- What the lines of the rows come to, what all behind line 2 comes to, and what a text comes to.

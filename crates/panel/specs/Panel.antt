@@ -6,7 +6,7 @@ use mathlib.Core.List.{List, [], _++_}
 use lib.Dec.{eqb}
 use lib.ListN.{length, drop}
 use Rattle.table.specs.declared.Row.{Row}
-use Rattle.planner.specs.Planner.{theAnswer, areaAfter, thePlan, theArrivals}
+use Rattle.planner.specs.Planner.{theAnswer, looksAfter, areaAfter, thePlan, theArrivals, theLooks}
 use Rattle.text.specs.Text as Text
 use Rattle.text.specs.Text.{readingOf, rowsRead, writingOf}
 use Rattle.area.specs.Area.{areaOf}
@@ -23,10 +23,11 @@ use Rattle.flat.specs.declared.ReadAnswer.{ReadAnswer}
 use Rattle.flat.specs.declared.WriteAnswer.{WriteAnswer}
 use Rattle.flat.specs.declared.SentenceAnswer.{SentenceAnswer}
 
--- The full outcome of planning from the panel: the flattened answer, and every entry of both lent areas.
+-- The full outcome of planning from the panel: the flattened answer with its looks, and every entry of both lent areas.
 pub record PanelPlanned (n : ℕ) (rows : List Row) (plan arrivals : List ℕ) (r : PlanAnswer)
     (plan′ arrivals′ : List ℕ) : Type 0 where
   pub answers : r ≡ flatOf (theAnswer n rows (length plan) (length arrivals))
+      (looksAfter (theAnswer n rows (length plan) (length arrivals)) (theLooks n rows))
   pub fills-plan : plan′ ≡ areaAfter (theAnswer n rows (length plan) (length arrivals)) (thePlan n rows) plan
   pub fills-arrivals : arrivals′ ≡ areaAfter (theAnswer n rows (length plan) (length arrivals))
       (theArrivals n rows) arrivals

@@ -9,6 +9,7 @@ ghost use Rattle.flat.specs.Flat.{flatVerdict, flatEntry, flatLink};
 ghost use Rattle.panel.specs.Panel.{PanelPlanned, PanelRead, PanelWritten, PanelOpened, PanelEdited};
 ghost use Rattle.panel.specs.Panel.{PanelSentence, PanelLabel};
 ghost use Rattle.panel.specs.Steps.{FlatRead};
+ghost use Rattle.looks.specs.Looks.{mostLooks};
 ghost use Rattle.catalogue.specs.Catalogue.{verdictOn};
 use area::Area;
 use flat::EditAnswer;
@@ -27,6 +28,7 @@ use flat::flat_verdict;
 use flat::flat_writing;
 use lent::load;
 use lent::store_rows;
+use looks::most_looks_columns;
 use ring::Node;
 use table::Columns;
 use table::Row;
@@ -65,8 +67,10 @@ fn plan_flat(
     ensures { λ r. ⌜ PanelPlanned nodes (listed rows columns) (now (plan .entry)) (now (arrivals .entry)) r
         (now (plan .exit)) (now (arrivals .exit)) ⌝ }
 {
-    let answer = planner::plan_columns(nodes, rows, columns, plan, arrivals);
-    flat_answer(answer)
+    let reply = planner::plan_columns(nodes, rows, columns, plan, arrivals);
+    let looks = reply.looks;
+    let answer = reply.answer;
+    flat_answer(answer, looks)
 }
 
 // Writes the text of a table, its rows given by columns, and answers in plain numbers.
@@ -91,6 +95,16 @@ pub extern "C" fn garboardle_plan(
     let count = rows.len();
     let columns = load(rows);
     plan_flat(nodes, count, columns, plan, arrivals)
+}
+
+// The most looks that planning a table can take, for a watchdog that must know before it calls.
+#[no_mangle]
+pub extern "C" fn garboardle_most_looks(nodes: u16, rows: &[Row]) -> u32
+    ensures { λ r. ⌜ r ≡ mostLooks nodes (now (rows .entry)) ⌝ }
+{
+    let count = rows.len();
+    let columns = load(rows);
+    most_looks_columns(nodes, count, columns)
 }
 
 // Reads a table's text into the lent rows, and answers in plain numbers.
@@ -191,6 +205,16 @@ pub extern "C" fn garboardle_plan_table(
     let rows = area::row_count(table) as usize;
     let columns = area::columns_of(table);
     plan_flat(table[0], rows, columns, plan, arrivals)
+}
+
+// The most looks that planning an open table can take.
+#[no_mangle]
+pub extern "C" fn garboardle_most_looks_table(table: &Area) -> u32
+    ensures { λ r. ⌜ r ≡ mostLooks (nodesIn (now (table .entry))) (rowsIn (now (table .entry))) ⌝ }
+{
+    let rows = area::row_count(table) as usize;
+    let columns = area::columns_of(table);
+    most_looks_columns(table[0], rows, columns)
 }
 
 // Judges a catalogue.

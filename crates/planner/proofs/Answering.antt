@@ -10,12 +10,13 @@ use lib.ListN.{length, replicate}
 use Rattle.lists.specs.Lists.{largest}
 use Rattle.lists.proofs.Build.{length-build}
 use Rattle.table.specs.Table.{refuse}
-use Rattle.slack.specs.declared.Stop.{Stop}
 use Rattle.cells.specs.Rows.{Freight}
 use Rattle.cells.specs.Cells.{rowPlan, rowArrivals, ofLastCells}
+use Rattle.run.specs.declared.Ending.{Ending}
 use Rattle.rows.specs.Steps.{RanRows}
 use Rattle.planner.specs.declared.Summary.{Summary}
 use Rattle.planner.specs.declared.Answer.the-variants.{Accepted, Refused}
+use Rattle.planner.specs.declared.Reply.{Reply}
 use Rattle.planner.specs.Planner.{summaryOf}
 use Rattle.planner.specs.Steps.{crossed, RunPlanned, answerToRun}
 
@@ -23,16 +24,18 @@ pub arrivals-long : (F : Freight) (slots : ℕ) → length (rowArrivals F slots)
 unfolding rowArrivals ofLastCells
 arrivals-long F slots = length-build (length (F .len)) _
 
-module _ {F : Freight} {room : ℕ} {plan′ arrivals′ : List ℕ} {stop : Stop}
-    (ran : RanRows F room stop plan′ arrivals′) where
+module _ {F : Freight} {room : ℕ} {plan′ arrivals′ : List ℕ} {ending : Ending}
+    (ran : RanRows F room ending plan′ arrivals′) where
   abbrev last : ℕ
   last = largest (F .due)
 
-  -- the areas do not depend on the answer
-  areas : (answer : _) → answer ≡ answerToRun F stop → RunPlanned F room answer plan′ arrivals′
+  -- the areas and the looks do not depend on the answer
+  areas : (answer : _) → answer ≡ answerToRun F (ending .stop)
+      → RunPlanned F room (record { answer = answer; looks = ending .looks }) plan′ arrivals′
   areas answer e =
       record {
         answers = e ∙ ap (answerToRun F) (ran .stops);
+        looked = ran .looked;
         carries =
             ran .carries ∙ ap (λ s. cond (eqb (s .row) 0) (rowPlan F last) (replicate room 0)) (ran .stops);
         arrives =
@@ -40,10 +43,10 @@ module _ {F : Freight} {room : ℕ} {plan′ arrivals′ : List ℕ} {stop : Sto
             (ran .stops);
       }
 
-  pub run-accepted : stop .row ≡ 0 → (sends : ℕ) → sends ≡ crossed (F .len) (F .links)
+  pub run-accepted : ending .stop .row ≡ 0 → (sends : ℕ) → sends ≡ crossed (F .len) (F .links)
       → (most : ℕ) → most ≡ largest arrivals′
       → (s : Summary) → s ≡ summaryOf (length arrivals′) sends (F .nodes * most) arrivals′
-      → RunPlanned F room (Accepted s) plan′ arrivals′
+      → RunPlanned F room (record { answer = Accepted s; looks = ending .looks }) plan′ arrivals′
   unfolding answerToRun
   run-accepted on-time sends e most m s sums = areas (Accepted s) (ap Accepted (sums ∙ figures) ∙ rw (on-time))
     where
@@ -55,7 +58,9 @@ module _ {F : Freight} {room : ℕ} {plan′ arrivals′ : List ℕ} {stop : Sto
           (F .nodes * largest (rowArrivals F last)) (rowArrivals F last)
       figures = rw (m, there, arrivals-long F last, e)
 
-  pub run-refused : (stop .row ≡ 0 → ⊥)
-      → RunPlanned F room (Refused (refuse 9 (stop .row) (stop .slot .0))) plan′ arrivals′
+  pub run-refused : (ending .stop .row ≡ 0 → ⊥)
+      → let late = Refused (refuse 9 (ending .stop .row) (ending .stop .slot .0)) in
+      RunPlanned F room (record { answer = late; looks = ending .looks }) plan′ arrivals′
   unfolding answerToRun
-  run-refused is-late = areas (Refused (refuse 9 (stop .row) (stop .slot .0))) (rw (ne-eqb (stop .row) 0 is-late))
+  run-refused is-late =
+      areas (Refused (refuse 9 (ending .stop .row) (ending .stop .slot .0))) (rw (ne-eqb (ending .stop .row) 0 is-late))

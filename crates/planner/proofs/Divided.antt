@@ -30,12 +30,13 @@ use Rattle.best.proofs.Order.{links-long, laid-on-ring}
 use Rattle.best.proofs.Arriving.{last, arrival-is}
 use Rattle.planner.specs.declared.Summary.{Summary}
 use Rattle.planner.specs.declared.Answer.the-variants.{Accepted}
+use Rattle.planner.specs.declared.Reply.{Reply}
 use Rattle.planner.specs.Planner.{freightOf, theArrivals, quotient, summaryOf, theSummary}
 use Rattle.planner.specs.Planner.{numberOf, Planned}
 use Rattle.planner.proofs.Answering.{arrivals-long}
 use Rattle.planner.proofs.Good.{soon}
 use Rattle.planner.proofs.Crossed.{sends-of-cells}
-use Rattle.planner.proofs.Judged.{sound}
+use Rattle.table.proofs.Whole.{sound}
 use Rattle.planner.proofs.Promises.{
   tabled,
   all-good,
@@ -180,10 +181,11 @@ module _ (n : ℕ) (rows : List Row) (well : WellFormed n rows) where
       }
 
 -- Each of the two figures of an acceptance is one division of whole numbers that are exact as floats.
-pub divided-exactly : {n : ℕ} {rows : List Row} {plan arrivals plan′ arrivals′ : List ℕ} {s : Summary}
-    → Planned n rows plan arrivals (Accepted s) plan′ arrivals′ → Divided n rows s
+pub divided-exactly : {n : ℕ} {rows : List Row} {plan arrivals plan′ arrivals′ : List ℕ} {r : Reply} {s : Summary}
+    → Planned n rows plan arrivals r plan′ arrivals′ → r .answer ≡ Accepted s → Divided n rows s
 unfolding numberOf
-divided-exactly {n} {rows} {s = s} out =
-    let k = accepted-is-plannable out refl in
-    let is : s ≡ theSummary n rows = cc (accepted-with k out refl) in
+divided-exactly {n} {rows} {r} {s} out accepted =
+    let none : numberOf (r .answer) ≡ 0 = rw accepted in
+    let k = accepted-is-plannable out none in
+    let is : s ≡ theSummary n rows = cc (sym accepted, accepted-with k out none) in
     rw is (summary-divided n rows (k .well-formed))

@@ -23,16 +23,16 @@ use Rattle.table.proofs.Judging.{GoodRow, good-rows, all-good, rows-long, rows-
 use Rattle.table.proofs.Judging.{its-destinations, its-lengths, its-cells, its-dues, its-distances}
 use Rattle.cells.specs.Rows.{Freight, freight}
 use Rattle.cells.specs.Cells.{rowStop, rowPlan, rowArrivals}
-use Rattle.cells.specs.Steps.{Laden}
-use Rattle.cells.specs.Steps.{AboveZero}
+use Rattle.cells.specs.Looks.{rowLooks}
+use Rattle.cells.specs.Steps.{Laden, AboveZero}
 use Rattle.best.proofs.Best.{row-plan-long}
 use Rattle.rows.specs.Steps.{Loaded}
-use Rattle.planner.specs.declared.Answer.{Answer}
+use Rattle.planner.specs.declared.Reply.{Reply}
 use Rattle.planner.specs.declared.Summary.{Summary}
 use Rattle.planner.specs.declared.Answer.the-variants.{Accepted, Refused}
-use Rattle.planner.specs.Planner.{freightOf, ending, thePlan, theArrivals, theSummary, answerToRows}
-use Rattle.planner.specs.Planner.{areaAfter}
-use Rattle.planner.specs.Steps.{crossed, RunPlanned, answerToRun, Tabled, GoodPlanned}
+use Rattle.planner.specs.Planner.{freightOf, ending, thePlan, theArrivals, theLooks, theSummary, answerToRows}
+use Rattle.planner.specs.Planner.{looksAfter, areaAfter}
+use Rattle.planner.specs.Steps.{crossed, RunPlanned, answerToRun, turnedAway, Tabled, GoodPlanned}
 use Rattle.planner.proofs.Answering.{arrivals-long}
 use Rattle.planner.proofs.Crossed.{table-crossed}
 
@@ -43,6 +43,13 @@ filled : (b : Bool) (s : Summary) (row slot m : ℕ) (given part before : List �
 unfolding areaAfter
 filled true s row slot m given part before e f = rw (f, e)
 filled false s row slot m given part before e f = rw (f, e)
+
+-- the looks of a run that was planned, whatever it came to
+looks-kept : (b : Bool) (s : Summary) (row slot looks : ℕ)
+    → looks ≡ looksAfter (cond b (Accepted s) (Refused (refuse 9 row slot))) looks
+unfolding looksAfter
+looks-kept true s row slot looks = refl
+looks-kept false s row slot looks = refl
 
 module _ {n : ℕ} {src dst len due : List ℕ}
     (k : Tabled n src dst len due) (good : judgeAll n (rowsOf src dst len due) ≡ Good) where
@@ -156,6 +163,10 @@ module _ {n : ℕ} {src dst len due : List ℕ}
   unfolding theArrivals
   its-arrivals = rw (its-freight, its-last)
 
+  its-looks : theLooks n rows ≡ rowLooks load last
+  unfolding theLooks
+  its-looks = rw (its-freight, its-last)
+
   its-sends : sendsOf n rows ≡ crossed len start
   its-sends =
       table-crossed n rows ∙ ap (λ F. crossed (F .len) (F .links)) its-freight
@@ -164,22 +175,23 @@ module _ {n : ℕ} {src dst len due : List ℕ}
   plan-room = ap length its-plan ∙ row-plan-long laden last ∙ mul-comm last n
 
   module _ (plan arrivals : List ℕ) where
-    pub short-plan : {r : Answer} → r ≡ Refused (refuse 7 0 0) → length plan < n * last
+    pub short-plan : {r : Reply} → r ≡ turnedAway (refuse 7 0 0) → length plan < n * last
         → GoodPlanned n rows plan arrivals r plan arrivals
-    unfolding answerToRows areaAfter
+    unfolding answerToRows looksAfter areaAfter
     short-plan e h =
         let short = lt-ltb (length plan) (n * last) h in
-        rw e (record { answers = rw (its-last, short); fills-plan = refl; fills-arrivals = refl })
+        rw e (record { answers = rw (its-last, short); looked = refl; fills-plan = refl; fills-arrivals = refl })
 
-    pub short-arrivals : {r : Answer} → r ≡ Refused (refuse 8 0 0)
+    pub short-arrivals : {r : Reply} → r ≡ turnedAway (refuse 8 0 0)
         → n * last ≤ length plan → length arrivals < length src → GoodPlanned n rows plan arrivals r plan arrivals
-    unfolding answerToRows areaAfter
+    unfolding answerToRows looksAfter areaAfter
     short-arrivals e p h =
         let room = le-ltb (length plan) (n * last) p in
         let short = lt-ltb (length arrivals) (length src) h in
         rw e
         (record {
           answers = rw (its-last, room, rows-long src dst len due, short);
+          looked = refl;
           fills-plan = refl;
           fills-arrivals = refl;
         })
@@ -200,7 +212,7 @@ module _ {n : ℕ} {src dst len due : List ℕ}
           k .same .len-each,
         )
 
-    planned : (links part stamps : List ℕ) (r : Answer) → links ≡ start
+    planned : (links part stamps : List ℕ) (r : Reply) → links ≡ start
         → n * last ≤ length plan → length src ≤ length arrivals
         → RunPlanned (freight n dst len due links) (n * last) r part stamps
         → GoodPlanned n rows plan arrivals r (part ++ drop (n * last) plan) (stamps ++ drop (length src) arrivals)
@@ -217,6 +229,9 @@ module _ {n : ℕ} {src dst len due : List ℕ}
         let long : length given ≡ many = ap length its-arrivals ∙ arrivals-long load last ∙ k .same .len-each in
         record {
           answers = ran .answers ∙ sym (its-answer p a);
+          looked =
+              ran .looked ∙ sym its-looks ∙ looks-kept on-time _ (stop .row) (stop .slot .0) (theLooks n rows)
+              ∙ ap (λ x. looksAfter x (theLooks n rows)) (sym (ran .answers));
           fills-plan =
               filled on-time _ (stop .row) (stop .slot .0) (n * last) (thePlan n rows) part plan plan-room carried
               ∙ ap (λ x. areaAfter x (thePlan n rows) plan) (sym (ran .answers));
@@ -227,7 +242,7 @@ module _ {n : ℕ} {src dst len due : List ℕ}
         }
 
     -- the same, where the largest due slot is what was found
-    pub planned-with : {g : ℕ} → g ≡ last → {links part stamps : List ℕ} {r : Answer}
+    pub planned-with : {g : ℕ} → g ≡ last → {links part stamps : List ℕ} {r : Reply}
         → n * g ≤ length plan → length src ≤ length arrivals
         → RunPlanned (freight n dst len due links) (length (take (n * g) plan)) r part stamps → links ≡ start
         → GoodPlanned n rows plan arrivals r (part ++ drop (n * g) plan) (stamps ++ drop (length src) arrivals)

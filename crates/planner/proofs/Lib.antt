@@ -3,7 +3,6 @@ pub mod Answering
 pub mod Good
 pub mod Judged
 pub mod Promises
-pub mod WellFormed
 pub mod EmptyTable
 pub mod Starting
 pub mod Turns

@@ -28,6 +28,7 @@ use Rattle.table.specs.Table.{WellFormed, judgeAll, refuse, destinations, lengt
 use Rattle.table.specs.Steps.{none, sources, rowsOf}
 use Rattle.table.proofs.Rows.{rows-of-columns, same-rows}
 use Rattle.table.proofs.Judging.{good-rows}
+use Rattle.table.proofs.Whole.{sound}
 use Rattle.slack.specs.declared.Stop.{Stop}
 use Rattle.slack.specs.Slack.{Traffic, stateAt, deliveredFrom, lateRow, stopOf}
 use Rattle.slack.proofs.Rule.{late-none, state-length}
@@ -45,6 +46,7 @@ use Rattle.best.proofs.Planning.{told-sends}
 use Rattle.best.proofs.Arriving.{last, last-is, arrival-is}
 use Rattle.planner.specs.declared.Answer.{Answer}
 use Rattle.planner.specs.declared.Answer.the-variants.{Accepted, Refused}
+use Rattle.planner.specs.declared.Reply.{Reply}
 use Rattle.planner.specs.Planner.{
   freightOf,
   planRoom,
@@ -56,23 +58,31 @@ use Rattle.planner.specs.Planner.{
   afterVerdict,
   theAnswer,
   numberOf,
+  theLooks,
+  looksAfter,
   areaAfter,
   Planned,
   ScheduleOf,
   Plannable,
 }
 use Rattle.planner.specs.Steps.{Tabled}
-use Rattle.planner.proofs.Judged.{sound}
 use Rattle.planner.proofs.Good.{laden, some-cell, under-way, its-freight}
 use Rattle.planner.proofs.Crossed.{sends-of-cells}
 
--- Two outcomes that fit the promise are equal: the answer, and every entry of both areas.
-pub one-outcome : {n : ℕ} {rows : List Row} {plan arrivals plan₁ arrivals₁ plan₂ arrivals₂ : List ℕ} {r₁ r₂ : Answer}
+abbrev reply : Answer → ℕ → Reply
+reply answer looks = record { answer = answer; looks = looks }
+
+replied : (r₁ r₂ : Reply) → r₁ .answer ≡ r₂ .answer → r₁ .looks ≡ r₂ .looks → r₁ ≡ r₂
+replied r₁ r₂ answers looks = ap (λ a. reply a (r₁ .looks)) answers ∙ ap (λ (l : ℕ). reply (r₂ .answer) l) looks
+
+-- Two outcomes that fit the promise are equal: the answer, the looks, and every entry of both areas.
+pub one-outcome : {n : ℕ} {rows : List Row} {plan arrivals plan₁ arrivals₁ plan₂ arrivals₂ : List ℕ} {r₁ r₂ : Reply}
     → Planned n rows plan arrivals r₁ plan₁ arrivals₁ → Planned n rows plan arrivals r₂ plan₂ arrivals₂
     → (r₁ ≡ r₂) × (plan₁ ≡ plan₂) × (arrivals₁ ≡ arrivals₂)
-one-outcome {n} {rows} {plan} {arrivals} a b =
-    let same = a .answers ∙ sym (b .answers) in (
-      same,
+one-outcome {n} {rows} {plan} {arrivals} {r₁} {r₂} a b =
+    let same = a .answers ∙ sym (b .answers) in
+    let looks = a .looked ∙ ap (λ r. looksAfter r (theLooks n rows)) same ∙ sym (b .looked) in (
+      replied r₁ r₂ same looks,
       a .fills-plan ∙ ap (λ r. areaAfter r (thePlan n rows) plan) same ∙ sym (b .fills-plan),
       a .fills-arrivals ∙ ap (λ r. areaAfter r (theArrivals n rows) arrivals) same ∙ sym (b .fills-arrivals),
     )
@@ -102,7 +112,7 @@ module _ (n : ℕ) (rows : List Row) (well : WellFormed n rows) where
   unfolding lastDue
   due-in-time i h = at-most-largest (dues rows) i
 
-module _ {n : ℕ} {rows : List Row} {plan arrivals plan′ arrivals′ : List ℕ} {r : Answer}
+module _ {n : ℕ} {rows : List Row} {plan arrivals plan′ arrivals′ : List ℕ} {r : Reply}
     (k : Plannable n rows plan arrivals) (out : Planned n rows plan arrivals r plan′ arrivals′) where
   abbrev F : Freight
   F = freightOf n rows
@@ -124,7 +134,7 @@ module _ {n : ℕ} {rows : List Row} {plan arrivals plan′ arrivals′ : List �
   in-time = due-in-time n rows (k .well-formed)
 
   -- what is left to decide is how the run ends
-  pub decided : r
+  pub decided : r .answer
       ≡ cond (eqb (ending n rows .row) 0) (Accepted (theSummary n rows))
       (Refused (refuse 9 (ending n rows .row) (ending n rows .slot .0)))
   unfolding theAnswer afterVerdict answerToRows
@@ -133,7 +143,7 @@ module _ {n : ℕ} {rows : List Row} {plan arrivals plan′ arrivals′ : List �
       let for-arrivals = le-ltb (length arrivals) (length rows) (k .room-for-arrivals) in
       out .answers ∙ rw (k .well-formed, for-plan, for-arrivals)
 
-  no-row-late : numberOf r ≡ 0 → ending n rows .row ≡ 0
+  no-row-late : numberOf (r .answer) ≡ 0 → ending n rows .row ≡ 0
   unfolding numberOf
   no-row-late e = go (ending n rows .row) refl (ap numberOf (sym decided) ∙ e)
     where
@@ -146,37 +156,37 @@ module _ {n : ℕ} {rows : List Row} {plan arrivals plan′ arrivals′ : List �
       go (suc row) f z = let never : _≡_ {A = ℕ} 9 0 = rw (eqb·suc-zero row) at z in absurd (omega arith)
 
   -- No cell of an accepted table is late.
-  pub accepted-then : numberOf r ≡ 0 → stopOf T start slots .row ≡ 0
+  pub accepted-then : numberOf (r .answer) ≡ 0 → stopOf T start slots .row ≡ 0
   unfolding ending
   accepted-then e = row-stop-none F slots .0 (no-row-late e)
 
-  late-row : numberOf r ≡ 9 → ending n rows .row ≡ 0 → ⊥
+  late-row : numberOf (r .answer) ≡ 9 → ending n rows .row ≡ 0 → ⊥
   unfolding numberOf
   late-row e on-time =
       let z : _≡_ {A = ℕ} 0 9 = sym (ap numberOf decided ∙ rw on-time) ∙ e in
       omega arith
 
-  late-then : numberOf r ≡ 9 → stopOf T start slots .row ≡ 0 → ⊥
+  late-then : numberOf (r .answer) ≡ 9 → stopOf T start slots .row ≡ 0 → ⊥
   unfolding ending
   late-then e on-time = late-row e (row-stop-none F slots .1 on-time)
 
-  then-late : (stopOf T start slots .row ≡ 0 → ⊥) → numberOf r ≡ 9
+  then-late : (stopOf T start slots .row ≡ 0 → ⊥) → numberOf (r .answer) ≡ 9
   unfolding numberOf ending
   then-late is-late =
       ap numberOf decided ∙ rw (ne-eqb (rowStop F slots .row) 0 (λ z. is-late (row-stop-none F slots .0 z)))
 
   -- Demand 3: refused as late exactly when no legal schedule, by any rule, meets the table.
-  pub late-iff-no-schedule : (numberOf r ≡ 9) ↔ ((s : List ℕ) → ScheduleOf n rows s → ⊥)
+  pub late-iff-no-schedule : (numberOf (r .answer) ≡ 9) ↔ ((s : List ℕ) → ScheduleOf n rows s → ⊥)
   late-iff-no-schedule =
       let best = rows-late-iff-none {F = F} {slots = slots} loaded in-time in
       (λ e. best .0 (late-then e), λ none. then-late (best .1 none))
 
   -- An acceptance carries the table's summary.
-  pub accepted-with : numberOf r ≡ 0 → r ≡ Accepted (theSummary n rows)
+  pub accepted-with : numberOf (r .answer) ≡ 0 → r .answer ≡ Accepted (theSummary n rows)
   accepted-with e = decided ∙ rw (no-row-late e)
 
   -- The used entries of an accepted plan are the rule's plan, told in rows.
-  pub the-plan-is : numberOf r ≡ 0 → take (planRoom n rows) plan′ ≡ rowPlan F slots
+  pub the-plan-is : numberOf (r .answer) ≡ 0 → take (planRoom n rows) plan′ ≡ rowPlan F slots
   unfolding areaAfter thePlan
   the-plan-is e =
       let its-plan = rowPlan F slots in
@@ -185,39 +195,46 @@ module _ {n : ℕ} {rows : List Row} {plan arrivals plan′ arrivals′ : List �
       ap (take (planRoom n rows)) filled ∙ take-at its-plan _ (planRoom n rows) long
 
   -- An accepted table's plan is itself such a schedule.
-  pub accepted-plan-is-a-schedule : numberOf r ≡ 0 → ScheduleOf n rows (take (planRoom n rows) plan′)
+  pub accepted-plan-is-a-schedule : numberOf (r .answer) ≡ 0 → ScheduleOf n rows (take (planRoom n rows) plan′)
   accepted-plan-is-a-schedule e =
       rw (the-plan-is e) (told-is-schedule {F = F} {slots = slots} loaded in-time (accepted-then e))
 
   -- The sends are the sum of the distances of all cells, and just as many entries of an accepted plan name a row.
-  pub sends-are-entries : numberOf r ≡ 0 → busy (take (planRoom n rows) plan′) ≡ sendsOf n rows
+  pub sends-are-entries : numberOf (r .answer) ≡ 0 → busy (take (planRoom n rows) plan′) ≡ sendsOf n rows
   sends-are-entries e =
       rw (the-plan-is e, sends-of-cells n rows)
       (told-sends F loaded slots (cell-dues {F = F} {slots = slots} loaded in-time) (accepted-then e))
 
+  -- Refusal 9 names where the rule's run ends, and with which row.
+  pub late-at : (row t : ℕ) → r .answer ≡ Refused (refuse 9 row t)
+      → (ending n rows .row ≡ row) × (ending n rows .slot .0 ≡ t)
+  unfolding numberOf
+  late-at row t e =
+      let is-late : ending n rows .row ≡ 0 → ⊥ = late-row (ap numberOf e) in
+      let refused : r .answer ≡ Refused (refuse 9 (ending n rows .row) (ending n rows .slot .0))
+      = decided ∙ rw (ne-eqb (ending n rows .row) 0 is-late) in
+      let named : refuse 9 (ending n rows .row) (ending n rows .slot .0) ≡ refuse 9 row t = inside (sym refused ∙ e) in
+      (ap (λ x. x .row) named, ap (λ x. x .slot .0) named)
+    where
+      inside : {x y : Refusal} → Refused x ≡ Refused y → x ≡ y
+      inside f = cc
+
   -- Refusal 9 names the first instant at which a row is late, and the lowest row that is late then.
-  pub late-names-the-first : (row t : ℕ) → r ≡ Refused (refuse 9 row t)
+  pub late-names-the-first : (row t : ℕ) → r .answer ≡ Refused (refuse 9 row t)
       → ((u i : ℕ) → u < t → RowLate F u (stateAt T start u) i → ⊥)
       × ((i : ℕ) × (row ≡ suc i) × (i < length rows) × RowLate F t (stateAt T start t) i
       × ((j : ℕ) → j < i → RowLate F t (stateAt T start t) j → ⊥))
   unfolding ending numberOf rowStop endBy ownerOf RowLate
   late-names-the-first row t e =
       let ends = stop-first T start slots in
-      let is-late : ending n rows .row ≡ 0 → ⊥ = late-row (ap numberOf e) in
-      let refused : r ≡ Refused (refuse 9 (ending n rows .row) (ending n rows .slot .0))
-      = decided ∙ rw (ne-eqb (ending n rows .row) 0 is-late) in
-      let named : refuse 9 (ending n rows .row) (ending n rows .slot .0) ≡ refuse 9 row t = inside (sym refused ∙ e) in
-      let same-row : ownerOf (owners F) (stop .row) ≡ row = ap (λ x. x .row) named in
-      let same-slot : stop .slot .0 ≡ t = ap (λ x. x .slot .0) named in (
+      let same-row : ownerOf (owners F) (stop .row) ≡ row = late-at row t e .0 in
+      let same-slot : stop .slot .0 ≡ t = late-at row t e .1 in (
         λ u i l. never u i (ends .none-late-before u (omega arith)),
         lowest (stop .row) (rw same-slot at (ends .row-is)) (late-then (ap numberOf e)) same-row,
       )
     where
       stop : Stop
       stop = stopOf T start slots
-
-      inside : {x y : Refusal} → Refused x ≡ Refused y → x ≡ y
-      inside f = cc
 
       never : (u i : ℕ) → lateRow T u (stateAt T start u) ≡ 0 → RowLate F u (stateAt T start u) i → ⊥
       never u i z (c, known, of-row, late) = differ (sym (late-none T u (stateAt T start u) z c known) ∙ late)

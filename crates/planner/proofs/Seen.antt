@@ -1,17 +1,17 @@
 -- From the definitions to what is seen: the entries of every accepted outcome.
---     accepted-is-plannable       an accepted table is well-formed, with room for its plan and its arrivals
+--     accepted-is-plannable, late-is-plannable      such a table is well-formed, with room for plan and arrivals
 --     entry-is-pick               entry t × N + p of the plan is the row of the cell that the rule picks there
 --     arrivals-are-deliveries     the arrivals are the instants at which that very plan has delivered whole rows
 --     arrives-in-time             none of them lies after its row's due slot
 -- Assumes nothing.
 use mathlib.Core.Path.{_≡_, refl, _∙_, ap, sym}
 use mathlib.Core.Logic.{_↔_}
-use Prim.Native.Nat.{ℕ, suc, _+_, _*_, _≤_, _<_}
+use Prim.Native.Nat.{ℕ, _+_, _*_, _≤_, _<_}
 use native.Mathlib.Nat.{mul-comm}
 use native.Mathlib.Omega.{arith}
-use mathlib.Core.Bool.{Bool, true, false, cond, _||_}
-use mathlib.Core.List.{List, [], _∷_, _++_}
-use borrow.Author.Tests.{ltb-false, eqb-false}
+use mathlib.Core.Bool.{Bool, true, false, cond}
+use mathlib.Core.List.{List, _++_}
+use borrow.Author.Tests.{ltb-false}
 use lib.Dec.{eqb, ltb}
 use lib.ListN.{length, getD, take, drop, List·getD-append}
 use lib.Seq.{getD-take}
@@ -20,9 +20,8 @@ use Rattle.table.specs.declared.Row.{Row}
 use Rattle.table.specs.declared.Refusal.{Refusal}
 use Rattle.table.specs.declared.Verdict.{Verdict}
 use Rattle.table.specs.declared.Verdict.the-variants as verdict
-use Rattle.table.specs.Table.{judge, judgeRows, judgeAll, afterRows, cellsIn, rowRefusal, most-rows, most-cells, refuse}
-use Rattle.table.specs.Table.{lengths, dues, lastDue}
-use Rattle.table.proofs.Judging.{never-good}
+use Rattle.table.specs.Table.{judge, refuse, lengths, dues, lastDue}
+use Rattle.table.proofs.Whole.{table-refused, table-early}
 use Rattle.slack.specs.Slack.{Traffic, pick, stateAt, planOf}
 use Rattle.optimal.proofs.Plan.{entry-inside, plan-entry}
 use Rattle.cells.specs.Rows.{Freight, cellLinks, cellsLeft, Delivered, MeetsRows, owners}
@@ -32,6 +31,7 @@ use Rattle.best.proofs.Best.{told-at}
 use Rattle.best.proofs.Arriving.{row-arrives}
 use Rattle.planner.specs.declared.Answer.{Answer}
 use Rattle.planner.specs.declared.Answer.the-variants.{Accepted, Refused}
+use Rattle.planner.specs.declared.Reply.{Reply}
 use Rattle.planner.specs.Planner.{
   freightOf,
   planRoom,
@@ -58,51 +58,15 @@ use Rattle.planner.proofs.Promises.{
   table-cells,
 }
 
--- A refusal of the table has a number other than 0.
-row-refused : (n : ℕ) (rows : List Row) (above : ℕ) (x : Refusal)
-    → judgeRows n rows above ≡ verdict.Refused x → x .number ≡ 0 → ⊥
-unfolding judgeRows
-row-refused n [] above x e z = never-good x (sym e)
-row-refused n (r ∷ rows) above x e z = go (eqb (rowRefusal n r) 0) refl e (row-refused n rows (suc above) x)
-  where
-    go : (b : Bool) → eqb (rowRefusal n r) 0 ≡ b
-        → cond b (judgeRows n rows (suc above)) (verdict.Refused (refuse (rowRefusal n r) (suc above) 0))
-        ≡ verdict.Refused x
-        → (judgeRows n rows (suc above) ≡ verdict.Refused x → x .number ≡ 0 → ⊥) → ⊥
-    go true f h rest = rest h z
-    go false f h rest =
-        let number : rowRefusal n r ≡ x .number = cc in
-        eqb-false (rowRefusal n r) 0 f (number ∙ z)
-
-all-refused : (n : ℕ) (rows : List Row) (x : Refusal) → judgeAll n rows ≡ verdict.Refused x → x .number ≡ 0 → ⊥
-unfolding judgeAll afterRows
-all-refused n rows x e z = go (judgeRows n rows 0) refl e
-  where
-    many : (b : Bool) → cond b (verdict.Refused (refuse 11 0 0)) verdict.Good ≡ verdict.Refused x → ⊥
-    many true h = let number : _≡_ {A = ℕ} 11 (x .number) = cc in omega arith
-    many false h = never-good x (sym h)
-
-    go : (v : Verdict) → judgeRows n rows 0 ≡ v → afterRows v (cellsIn rows) ≡ verdict.Refused x → ⊥
-    go verdict.Good f h = many (ltb most-cells (cellsIn rows)) h
-    go (verdict.Refused y) f h = row-refused n rows 0 x (f ∙ h) z
-
-table-refused : (n : ℕ) (rows : List Row) (x : Refusal) → judge n rows ≡ verdict.Refused x → x .number ≡ 0 → ⊥
-unfolding judge
-table-refused n rows x e z = go (ltb n 2 || ltb 32 n) (ltb most-rows (length rows)) e
-  where
-    go : (a b : Bool)
-        → cond a (verdict.Refused (refuse 1 0 0)) (cond b (verdict.Refused (refuse 2 0 0)) (judgeAll n rows))
-        ≡ verdict.Refused x → ⊥
-    go true b h = let number : _≡_ {A = ℕ} 1 (x .number) = cc in omega arith
-    go false true h = let number : _≡_ {A = ℕ} 2 (x .number) = cc in omega arith
-    go false false h = all-refused n rows x h z
-
-module _ {n : ℕ} {rows : List Row} {plan arrivals plan′ arrivals′ : List ℕ} {r : Answer}
-    (out : Planned n rows plan arrivals r plan′ arrivals′) (accepted : numberOf r ≡ 0) where
-  -- Refusals 1 to 8, 10 and 11 do not hold of an accepted table.
-  pub accepted-is-plannable : Plannable n rows plan arrivals
+module _ {n : ℕ} {rows : List Row} {plan arrivals plan′ arrivals′ : List ℕ} {r : Reply}
+    (out : Planned n rows plan arrivals r plan′ arrivals′) where
+  -- What is answered by a number that is no refusal before 9 is answered of a plannable table.
+  run-is-plannable : (m : ℕ) → (m ≡ 7 → ⊥) → (m ≡ 8 → ⊥)
+      → ((x : Refusal) → judge n rows ≡ verdict.Refused x → x .number ≡ m → ⊥)
+      → numberOf (r .answer) ≡ m → Plannable n rows plan arrivals
   unfolding theAnswer afterVerdict answerToRows numberOf
-  accepted-is-plannable = by-verdict (judge n rows) refl (ap numberOf (sym (out .answers)) ∙ accepted)
+  run-is-plannable m not-7 not-8 not-early is =
+      by-verdict (judge n rows) refl (ap numberOf (sym (out .answers)) ∙ is)
     where
       rest : Answer
       rest =
@@ -111,10 +75,10 @@ module _ {n : ℕ} {rows : List Row} {plan arrivals plan′ arrivals′ : List �
 
       room : (a : Bool) → ltb (length plan) (planRoom n rows) ≡ a → (b : Bool) → ltb (length arrivals) (length rows) ≡ b
           → judge n rows ≡ verdict.Good
-          → numberOf (cond a (Refused (refuse 7 0 0)) (cond b (Refused (refuse 8 0 0)) rest)) ≡ 0
+          → numberOf (cond a (Refused (refuse 7 0 0)) (cond b (Refused (refuse 8 0 0)) rest)) ≡ m
           → Plannable n rows plan arrivals
-      room true f b g well z = absurd (omega arith)
-      room false f true g well z = absurd (omega arith)
+      room true f b g well z = absurd (not-7 (sym z))
+      room false f true g well z = absurd (not-8 (sym z))
       room false f false g well z =
           record {
             well-formed = well;
@@ -123,11 +87,24 @@ module _ {n : ℕ} {rows : List Row} {plan arrivals plan′ arrivals′ : List �
           }
 
       by-verdict : (v : Verdict) → judge n rows ≡ v
-          → numberOf (afterVerdict v (answerToRows n rows (length plan) (length arrivals))) ≡ 0
+          → numberOf (afterVerdict v (answerToRows n rows (length plan) (length arrivals))) ≡ m
           → Plannable n rows plan arrivals
       by-verdict verdict.Good e z =
           room (ltb (length plan) (planRoom n rows)) refl (ltb (length arrivals) (length rows)) refl e z
-      by-verdict (verdict.Refused x) e z = absurd (table-refused n rows x e z)
+      by-verdict (verdict.Refused x) e z = absurd (not-early x e z)
+
+  -- Refusals 1 to 8, 10 and 11 do not hold of an accepted table, nor of a late one.
+  pub accepted-is-plannable : numberOf (r .answer) ≡ 0 → Plannable n rows plan arrivals
+  accepted-is-plannable = run-is-plannable 0 (λ z. omega arith) (λ z. omega arith) (table-refused n rows)
+
+  pub late-is-plannable : numberOf (r .answer) ≡ 9 → Plannable n rows plan arrivals
+  late-is-plannable = run-is-plannable 9 (λ z. omega arith) (λ z. omega arith) (table-early n rows)
+
+-- What is seen of an accepted table.
+module _ {n : ℕ} {rows : List Row} {plan arrivals plan′ arrivals′ : List ℕ} {r : Reply}
+    (out : Planned n rows plan arrivals r plan′ arrivals′) (accepted : numberOf (r .answer) ≡ 0) where
+  abbrev k : Plannable n rows plan arrivals
+  k = accepted-is-plannable out accepted
 
   abbrev F : Freight
   F = freightOf n rows
@@ -147,7 +124,7 @@ module _ {n : ℕ} {rows : List Row} {plan arrivals plan′ arrivals′ : List �
       let used : t * n + p < planRoom n rows = omega (arith, mul-comm (lastDue rows) n) in
       let plan = planOf T start (lastDue rows) in
       sym (getD-take (planRoom n rows) plan′ (t * n + p) 0 used)
-      ∙ ap (λ front. getD front (t * n + p) 0) (the-plan-is accepted-is-plannable out accepted)
+      ∙ ap (λ front. getD front (t * n + p) 0) (the-plan-is k out accepted)
       ∙ told-at F plan (t * n + p) ∙ ap (ownerOf (owners F)) (plan-entry T start (lastDue rows) t p early inside)
       ∙ ap (λ m. ownerOf (owners F) (pick T t (stateAt T start t) p m)) (links-long F)
 
@@ -156,7 +133,7 @@ module _ {n : ℕ} {rows : List Row} {plan arrivals plan′ arrivals′ : List �
   unfolding areaAfter theArrivals
   its-arrival i known =
       let given = theArrivals n rows in
-      let carries = accepted-with accepted-is-plannable out accepted in
+      let carries = accepted-with k out accepted in
       let filled : arrivals′ ≡ given ++ drop (length given) arrivals = out .fills-arrivals ∙ rw carries in
       let inside : i < length given = omega (arith, arrivals-long F (lastDue rows), lengths-long rows) in
       ap (λ area. getD area i 0) filled ∙ List·getD-append given (drop (length given) arrivals) 0 i inside
@@ -165,7 +142,6 @@ module _ {n : ℕ} {rows : List Row} {plan arrivals plan′ arrivals′ : List �
   pub arrivals-are-deliveries : (i t : ℕ) → i < length rows → t ≤ lastDue rows
       → (getD arrivals′ i 0 ≤ t) ↔ Delivered F (cellsLeft F (take (planRoom n rows) plan′) t) i
   arrivals-are-deliveries i t known early =
-      let k = accepted-is-plannable in
       let well = k .well-formed in
       let inside : i < length (lengths rows) = omega (arith, lengths-long rows) in
       rw (the-plan-is k out accepted, its-arrival i known)
@@ -176,7 +152,6 @@ module _ {n : ℕ} {rows : List Row} {plan arrivals plan′ arrivals′ : List �
   pub arrives-in-time : (i : ℕ) → i < length rows → getD arrivals′ i 0 ≤ getD (dues rows) i 0
   unfolding MeetsRows
   arrives-in-time i known =
-      let k = accepted-is-plannable in
       let inside : i < length (lengths rows) = omega (arith, lengths-long rows) in
       let (t, in-time, whole) = accepted-plan-is-a-schedule k out accepted .meets i inside in
       let early : t ≤ lastDue rows = omega (arith, in-time, due-in-time n rows (k .well-formed) i inside) in

@@ -19,7 +19,7 @@ use Rattle.cells.specs.Cells.{cellTraffic}
 use Rattle.cells.proofs.Seats.{Seat, seat}
 use Rattle.best.proofs.Order.{seat-owner, seat-dst, seat-links}
 use Rattle.planner.specs.Planner.{freightOf}
-use Rattle.planner.proofs.Judged.{sound}
+use Rattle.table.proofs.Whole.{sound}
 use Rattle.planner.proofs.Promises.{lengths-long}
 
 -- An entry of a column is the row's own.

@@ -15,9 +15,11 @@ use Rattle.table.specs.Table.{judge, WellFormed, refuse, destinations, lengths,
 use Rattle.slack.specs.declared.Stop.{Stop}
 use Rattle.cells.specs.Rows.{Freight, freight, RowSchedule}
 use Rattle.cells.specs.Cells.{rowStop, rowPlan, rowArrivals}
+use Rattle.cells.specs.Looks.{rowLooks}
 use Rattle.planner.specs.declared.Summary.{Summary}
 use Rattle.planner.specs.declared.Answer.{Answer}
 use Rattle.planner.specs.declared.Answer.the-variants.{Accepted, Refused}
+use Rattle.planner.specs.declared.Reply.{Reply}
 
 -- The freight of a table: its nodes, and its rows' destinations, lengths, due slots and distances.
 abbrev pub freightOf : ℕ → List Row → Freight
@@ -38,6 +40,10 @@ thePlan n rows = rowPlan (freightOf n rows) (lastDue rows)
 -- Each row's delivery instant: that of its last cell.
 unfoldable pub theArrivals : ℕ → List Row → List ℕ
 theArrivals n rows = rowArrivals (freightOf n rows) (lastDue rows)
+
+-- The looks that the rule's run of a table takes.
+unfoldable pub theLooks : ℕ → List Row → ℕ
+theLooks n rows = rowLooks (freightOf n rows) (lastDue rows)
 
 -- One division of whole numbers that are exact as floats, rounded once; 0 where there is nothing to divide by.
 unfoldable pub quotient : ℕ → ℕ → Float
@@ -89,12 +95,19 @@ areaAfter (Accepted s) given before = given ++ drop (length given) before
 areaAfter (Refused r) given before =
     cond (eqb (r .number) 9) (replicate (length given) 0 ++ drop (length given) before) before
 
--- The full outcome of planning: the answer, and every entry of both lent areas.
-pub record Planned (n : ℕ) (rows : List Row) (plan arrivals : List ℕ) (answer : Answer)
+-- The looks that are reported with an answer: those given where the table is accepted or late; else none, since the
+-- rule was not applied.
+unfoldable pub looksAfter : Answer → (given : ℕ) → ℕ
+looksAfter (Accepted s) given = given
+looksAfter (Refused r) given = cond (eqb (r .number) 9) given 0
+
+-- The full outcome of planning: the answer, the looks, and every entry of both lent areas.
+pub record Planned (n : ℕ) (rows : List Row) (plan arrivals : List ℕ) (reply : Reply)
     (plan′ arrivals′ : List ℕ) : Type 0 where
-  pub answers : answer ≡ theAnswer n rows (length plan) (length arrivals)
-  pub fills-plan : plan′ ≡ areaAfter answer (thePlan n rows) plan
-  pub fills-arrivals : arrivals′ ≡ areaAfter answer (theArrivals n rows) arrivals
+  pub answers : reply .answer ≡ theAnswer n rows (length plan) (length arrivals)
+  pub looked : reply .looks ≡ looksAfter (reply .answer) (theLooks n rows)
+  pub fills-plan : plan′ ≡ areaAfter (reply .answer) (thePlan n rows) plan
+  pub fills-arrivals : arrivals′ ≡ areaAfter (reply .answer) (theArrivals n rows) arrivals
 
 -- A legal schedule, by any rule, of N entries for each slot below the largest due slot, that brings every row of the
 -- table there in time.

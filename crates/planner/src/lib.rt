@@ -8,7 +8,7 @@ ghost use Prim.Native.Nat.{_≤_};
 ghost use Rattle.cells.specs.Rows.{freight};
 ghost use Rattle.rows.specs.Steps.{Loaded};
 ghost use Rattle.planner.specs.Planner.{Planned, quotient, summaryOf};
-ghost use Rattle.planner.specs.Steps.{crossed, RunPlanned, Tabled, GoodPlanned};
+ghost use Rattle.planner.specs.Steps.{crossed, RunPlanned, turnedAway, Tabled, GoodPlanned};
 use lent::load;
 use lists::greatest;
 use lists::sum;
@@ -19,7 +19,7 @@ use table::Columns;
 use table::Refusal;
 use table::Row;
 use table::Verdict;
-use table::judge_all;
+use table::judge_columns;
 use table::measure;
 
 // What an accepted table comes to.
@@ -35,6 +35,12 @@ pub struct Summary {
 pub enum Answer {
     Accepted(Summary),
     Refused(Refusal),
+}
+
+// What planning reports: the answer, and how many looks it took.
+pub struct Reply {
+    pub answer: Answer,
+    pub looks: u32,
 }
 
 // One division of whole numbers, 0 where there is nothing to divide by.
@@ -87,31 +93,43 @@ fn plan_run(
     links: &[u16],
     plan: &mut [u16],
     arrivals: &mut [u16],
-) -> Answer
+) -> Reply
     requires { ⌜ Loaded (freight nodes (now dst) (now len) (now due) (now links)) (now plan) (now arrivals) ⌝ }
     ensures { λ r. ⌜ RunPlanned (freight nodes (now (dst .entry)) (now (len .entry)) (now (due .entry))
         (now (links .entry))) (length (now (plan .entry))) r (now (plan .exit)) (now (arrivals .exit)) ⌝ }
 {
     let sends = count_sends(len, links);
-    let stop = run_rows(nodes, dst, len, due, links, plan, arrivals);
+    let ending = run_rows(nodes, dst, len, due, links, plan, arrivals);
+    let looks = ending.looks;
+    let stop = ending.stop;
     if stop.row == 0 {
         let time = nodes as u32 * greatest(arrivals) as u32;
-        Answer::Accepted(sum_up(sends, time, arrivals))
+        let answer = Answer::Accepted(sum_up(sends, time, arrivals));
+        Reply { answer, looks }
     } else {
         let slot = stop.slot;
-        Answer::Refused(Refusal {
+        let answer = Answer::Refused(Refusal {
             number: 9,
             row: stop.row,
             slot,
-        })
+        });
+        Reply { answer, looks }
     }
 }
 
-// A refusal that names neither row nor slot.
-fn refusal(number: u16) -> Answer
-    ensures { λ r. ⌜ r ≡ Answer.Refused (refuse number 0 0) ⌝ }
+// A refusal before the rule is applied, without a look.
+fn turn_away(refusal: Refusal) -> Reply
+    ensures { λ r. ⌜ r ≡ turnedAway refusal ⌝ }
 {
-    Answer::Refused(Refusal {
+    let answer = Answer::Refused(refusal);
+    Reply { answer, looks: 0 }
+}
+
+// Such a refusal that names neither row nor slot.
+fn refusal(number: u16) -> Reply
+    ensures { λ r. ⌜ r ≡ turnedAway (refuse number 0 0) ⌝ }
+{
+    turn_away(Refusal {
         number,
         row: 0,
         slot: Slot(0),
@@ -127,7 +145,7 @@ fn plan_good(
     due: &[u16],
     plan: &mut [u16],
     arrivals: &mut [u16],
-) -> Answer
+) -> Reply
     requires { ⌜ Tabled nodes (now src) (now dst) (now len) (now due)
         × (judgeAll nodes (rowsOf (now src) (now dst) (now len) (now due)) ≡ Verdict.Good) ⌝ }
     ensures { λ r. ⌜ GoodPlanned nodes
@@ -155,28 +173,6 @@ fn plan_good(
     )
 }
 
-// Plans the rows of four columns: refuses the first bad row or too many cells, and else plans them.
-fn plan_rows(
-    nodes: u16,
-    src: &[u16],
-    dst: &[u16],
-    len: &[u16],
-    due: &[u16],
-    plan: &mut [u16],
-    arrivals: &mut [u16],
-) -> Answer
-    requires { ⌜ Tabled nodes (now src) (now dst) (now len) (now due) ⌝ }
-    ensures { λ r. ⌜ Planned nodes
-        (rowsOf (now (src .entry)) (now (dst .entry)) (now (len .entry)) (now (due .entry)))
-        (now (plan .entry)) (now (arrivals .entry)) r (now (plan .exit)) (now (arrivals .exit)) ⌝ }
-{
-    let verdict = judge_all(nodes, src, dst, len, due);
-    match verdict {
-        Verdict::Refused(r) => Answer::Refused(r),
-        Verdict::Good => plan_good(nodes, src, dst, len, due, plan, arrivals),
-    }
-}
-
 // Plans the first `rows` rows of the columns: the whole planner, on plain numbers.
 pub fn plan_columns(
     nodes: u16,
@@ -184,36 +180,31 @@ pub fn plan_columns(
     columns: Columns,
     plan: &mut [u16],
     arrivals: &mut [u16],
-) -> Answer
+) -> Reply
     ensures { λ r. ⌜ Planned nodes (listed rows columns) (now (plan .entry)) (now (arrivals .entry)) r
         (now (plan .exit)) (now (arrivals .exit)) ⌝ }
 {
-    if nodes < 2 {
-        return refusal(1);
-    }
-    if 32 < nodes {
-        return refusal(1);
-    }
-    if 512 < rows {
-        return refusal(2);
-    }
     let src = columns.src;
     let dst = columns.dst;
     let len = columns.len;
     let due = columns.due;
-    plan_rows(
-        nodes,
-        &src[..rows],
-        &dst[..rows],
-        &len[..rows],
-        &due[..rows],
-        plan,
-        arrivals,
-    )
+    let verdict = judge_columns(nodes, rows, &src, &dst, &len, &due);
+    match verdict {
+        Verdict::Refused(r) => turn_away(r),
+        Verdict::Good => plan_good(
+            nodes,
+            &src[..rows],
+            &dst[..rows],
+            &len[..rows],
+            &due[..rows],
+            plan,
+            arrivals,
+        ),
+    }
 }
 
 // Plans a table: the lent plan says which row each link carries in each slot, the lent arrivals when each row is there.
-pub fn plan(nodes: u16, rows: &[Row], plan: &mut [u16], arrivals: &mut [u16]) -> Answer
+pub fn plan(nodes: u16, rows: &[Row], plan: &mut [u16], arrivals: &mut [u16]) -> Reply
     ensures { λ r. ⌜ Planned nodes (now (rows .entry)) (now (plan .entry)) (now (arrivals .entry)) r (now (plan .exit))
         (now (arrivals .exit)) ⌝ }
 {

@@ -14,18 +14,20 @@ use Rattle.table.specs.declared.Refusal.{Refusal}
 use Rattle.table.specs.declared.Verdict.{Verdict}
 use Rattle.table.specs.declared.Verdict.the-variants as verdict
 use Rattle.table.specs.Table.{judge, WellFormed, dues, lastDue}
-use Rattle.table.specs.Steps.{listed}
+use Rattle.table.specs.Steps.{listed, Columned}
 use Rattle.table.proofs.Rows.{length-listed}
 use Rattle.table.proofs.Judging.{its-dues}
 use Rattle.best.proofs.Best.{row-plan-long}
 use Rattle.planner.specs.declared.Answer.{Answer}
+use Rattle.planner.specs.declared.Reply.{Reply}
 use Rattle.planner.specs.declared.Summary.{Summary}
 use Rattle.planner.specs.declared.Answer.the-variants.{Accepted, Refused}
 use Rattle.planner.specs.Planner.{freightOf, thePlan, theArrivals, answerToRows, afterVerdict, theAnswer, areaAfter}
 use Rattle.planner.specs.Planner.{Planned}
 use Rattle.planner.proofs.Answering.{arrivals-long}
 use Rattle.planner.proofs.Good.{soon}
-use Rattle.planner.proofs.Judged.{Sound, sound, listed-fronts, fronts-tabled}
+use Rattle.table.proofs.Rows.{listed-fronts, fronts-same}
+use Rattle.table.proofs.Whole.{Sound, sound}
 use Rattle.planner.proofs.Promises.{tabled, all-good, lengths-long, table-laden}
 use Rattle.report.specs.Report.{verdictLines, acceptedText, answerText, tableText}
 use Rattle.text.specs.Steps.{Room}
@@ -72,30 +74,27 @@ table-most n rows = go (theAnswer n rows 32768 512) refl
     go (Refused r) e = omega (arith, verdict-most r)
 
 -- As `respond_table` finds it: the rows by columns, the areas that it lends, and what they hold after planning.
-pub record Answered (n count : ℕ) (c : Columns) (r : Answer) (plan′ arrivals′ : List ℕ) : Type 0 where
+pub record Answered (n count : ℕ) (c : Columns) (r : Reply) (plan′ arrivals′ : List ℕ) : Type 0 where
   pub plan : List ℕ
   pub arrivals : List ℕ
   pub plan-all : length plan ≡ 32768
   pub arrivals-all : length arrivals ≡ 512
   pub out : Planned n (listed count c) plan arrivals r plan′ arrivals′
-  pub src-all : length (c .src) ≡ 512
-  pub dst-all : length (c .dst) ≡ 512
-  pub len-all : length (c .len) ≡ 512
-  pub due-all : length (c .due) ≡ 512
+  pub columned : Columned c
 
-module _ {n count : ℕ} {c : Columns} {r : Answer} {plan′ arrivals′ : List ℕ}
+module _ {n count : ℕ} {c : Columns} {r : Reply} {plan′ arrivals′ : List ℕ}
     (k : Answered n count c r plan′ arrivals′) where
   abbrev table : List Row
   table = listed count c
 
-  its-answer : theAnswer n table 32768 512 ≡ r
+  its-answer : theAnswer n table 32768 512 ≡ r .answer
   its-answer = sym (k .out .answers ∙ rw (k .plan-all, k .arrivals-all))
 
-  pub refused-is : {x : Refusal} → r ≡ Refused x → tableText n table ≡ verdictLines x
+  pub refused-is : {x : Refusal} → r .answer ≡ Refused x → tableText n table ≡ verdictLines x
   unfolding tableText answerText
   refused-is e = rw (its-answer, e)
 
-  module _ {s : Summary} (e : r ≡ Accepted s) where
+  module _ {s : Summary} (e : r .answer ≡ Accepted s) where
     is : theAnswer n table 32768 512 ≡ Accepted s
     is = its-answer ∙ e
 
@@ -128,13 +127,12 @@ module _ {n count : ℕ} {c : Columns} {r : Answer} {plan′ arrivals′ : List 
 
     its-due : dues table ≡ take count (c .due)
     its-due =
-        let same = fronts-tabled n count c (size .least) (size .most) few-rows (k .src-all) (k .dst-all)
-        (k .len-all) (k .due-all) .same in
-        ap dues (listed-fronts count c (omega (arith, few-rows, k .src-all)))
+        let same = fronts-same count c few-rows (k .columned) in
+        ap dues (listed-fronts count c (omega (arith, few-rows, k .columned .src-all)))
         ∙ its-dues (take count (c .src)) (take count (c .dst)) (take count (c .len)) (take count (c .due)) same
 
     pub due-fits : count ≤ length (c .due)
-    due-fits = omega (arith, few-rows, k .due-all)
+    due-fits = omega (arith, few-rows, k .columned .due-all)
 
     pub due-front : count ≡ length (take count (c .due))
     due-front = sym (length-take-le count (c .due) due-fits)

@@ -131,7 +131,8 @@ fn respond_table(nodes: u16, rows: usize, columns: Columns, area: &mut [u8]) -> 
 {
     let mut plan = plan_room();
     let mut arrivals = arrivals_room();
-    let answer = plan_columns(nodes, rows, columns, &mut plan, &mut arrivals);
+    let reply = plan_columns(nodes, rows, columns, &mut plan, &mut arrivals);
+    let answer = reply.answer;
     match answer {
         Answer::Refused(refusal) => put_verdict(area, refusal),
         Answer::Accepted(summary) => {

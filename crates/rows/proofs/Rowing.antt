@@ -13,14 +13,15 @@ use lib.ListN.{length, getD, take, replicate, length-replicate, getD-replicate, 
 use Rattle.lists.specs.Lists.{total, largest}
 use Rattle.lists.proofs.Build.{build-ext, build-const}
 use Rattle.slack.specs.Slack.{traffic, arrivalsOf}
-use Rattle.slack.specs.declared.Stop.{Stop}
 use Rattle.cells.specs.Rows.{Freight, owners, cellLinks}
 use Rattle.cells.specs.Cells.{cellDues, cellTraffic, rowPlan, rowStop, ofLastCells, rowArrivals}
+use Rattle.cells.specs.Looks.{rowLooks}
 use Rattle.cells.specs.Steps.{Laid}
 use Rattle.best.proofs.Order.{owners-long, links-long, laid-on-ring}
 use Rattle.best.proofs.Named.{owner-named}
 use Rattle.best.proofs.Planning.{same-largest}
 use Rattle.run.specs.Steps.{Ready, Ran}
+use Rattle.run.specs.declared.Ending.{Ending}
 use Rattle.rows.specs.Steps.{Loaded, RanRows}
 
 -- Where no cell arrives, no row does.
@@ -76,19 +77,22 @@ module _ {F : Freight} {plan arrivals : List ℕ} (loaded : Loaded F plan arriva
       )
 
       -- What their run gives, with the rows' arrivals gathered from the cells', is what the run of the rows does.
-      pub rows-ran : {room : ℕ} {stop : Stop} {left′ plan′ stamps′ arrivals′ : List ℕ}
-          → Ran (traffic (F .nodes) dsts dues) owner left room stop left′ plan′ stamps′
-          → arrivals′ ≡ ofLastCells (F .len) stamps′ → RanRows F room stop plan′ arrivals′
-      rows-ran {room} {stop} {left′} {plan′} {stamps′} {arrivals′} from gathered =
-          record { stops = stops; carries = carries; arrives = arrives }
+      pub rows-ran : {room : ℕ} {ending : Ending} {left′ plan′ stamps′ arrivals′ : List ℕ}
+          → Ran (traffic (F .nodes) dsts dues) owner left room ending left′ plan′ stamps′
+          → arrivals′ ≡ ofLastCells (F .len) stamps′ → RanRows F room ending plan′ arrivals′
+      rows-ran {room} {ending} {left′} {plan′} {stamps′} {arrivals′} from gathered =
+          record { stops = stops; looked = looked; carries = carries; arrives = arrives }
         where
-          ran : Ran (cellTraffic F) (owners F) (cellLinks F) room stop left′ plan′ stamps′
+          ran : Ran (cellTraffic F) (owners F) (cellLinks F) room ending left′ plan′ stamps′
           ran = rw (traffic-is, owner-is, left-is) at from
 
-          stops : stop ≡ rowStop F (largest (F .due))
+          stops : ending .stop ≡ rowStop F (largest (F .due))
           stops = unfold rowStop in rw last-is at (ran .stops)
 
-          carries : plan′ ≡ cond (eqb (stop .row) 0) (rowPlan F (largest (F .due))) (replicate room 0)
+          looked : ending .looks ≡ rowLooks F (largest (F .due))
+          looked = unfold rowLooks in rw last-is at (ran .looked)
+
+          carries : plan′ ≡ cond (eqb (ending .stop .row) 0) (rowPlan F (largest (F .due))) (replicate room 0)
           carries = unfold rowPlan in rw last-is at (ran .carries)
 
           stamped : List ℕ
@@ -100,6 +104,6 @@ module _ {F : Freight} {plan arrivals : List ℕ} (loaded : Loaded F plan arriva
           gathers false = none-gathered (F .len) (length (cellLinks F))
 
           arrives : arrivals′
-              ≡ cond (eqb (stop .row) 0) (rowArrivals F (largest (F .due))) (replicate (length (F .len)) 0)
+              ≡ cond (eqb (ending .stop .row) 0) (rowArrivals F (largest (F .due))) (replicate (length (F .len)) 0)
           arrives =
-              gathered ∙ ap (ofLastCells (F .len)) (rw last-is at (ran .arrives)) ∙ gathers (eqb (stop .row) 0)
+              gathered ∙ ap (ofLastCells (F .len)) (rw last-is at (ran .arrives)) ∙ gathers (eqb (ending .stop .row) 0)

@@ -6,11 +6,11 @@ use mathlib.Core.List.{List}
 use lib.Dec.{eqb}
 use lib.ListN.{length, replicate}
 use Rattle.lists.specs.Lists.{total, largest}
-use Rattle.slack.specs.declared.Stop.{Stop}
 use Rattle.cells.specs.Rows.{Freight}
 use Rattle.cells.specs.Cells.{rowPlan, rowArrivals, rowStop}
-use Rattle.cells.specs.Steps.{Laden}
-use Rattle.cells.specs.Steps.{AboveZero}
+use Rattle.cells.specs.Looks.{rowLooks}
+use Rattle.cells.specs.Steps.{Laden, AboveZero}
+use Rattle.run.specs.declared.Ending.{Ending}
 
 -- A run of rows can be planned: each has a cell or more, of at most 1,024 in all, and there is an entry for each link
 -- in each slot below the largest due slot, and an arrival for each row.
@@ -26,13 +26,14 @@ pub record Loaded (F : Freight) (plan arrivals : List ℕ) : Type 0 where
   pub room : length plan ≡ F .nodes * largest (F .due)
   pub each : length arrivals ≡ length (F .len)
 
--- What a run of rows gives: where it ended and with which row, and both areas, which hold the plan and the rows'
--- arrivals where no row is late and zeros where one is.
-pub record RanRows (F : Freight) (room : ℕ) (stop : Stop) (plan′ arrivals′ : List ℕ) : Type 0 where
-  pub stops : stop ≡ rowStop F (largest (F .due))
-  pub carries : plan′ ≡ cond (eqb (stop .row) 0) (rowPlan F (largest (F .due))) (replicate room 0)
+-- What a run of rows gives: where it ended and with which row, its looks, and both areas, which hold the plan and the
+-- rows' arrivals where no row is late and zeros where one is.
+pub record RanRows (F : Freight) (room : ℕ) (ending : Ending) (plan′ arrivals′ : List ℕ) : Type 0 where
+  pub stops : ending .stop ≡ rowStop F (largest (F .due))
+  pub looked : ending .looks ≡ rowLooks F (largest (F .due))
+  pub carries : plan′ ≡ cond (eqb (ending .stop .row) 0) (rowPlan F (largest (F .due))) (replicate room 0)
   pub arrives : arrivals′
-      ≡ cond (eqb (stop .row) 0) (rowArrivals F (largest (F .due))) (replicate (length (F .len)) 0)
+      ≡ cond (eqb (ending .stop .row) 0) (rowArrivals F (largest (F .due))) (replicate (length (F .len)) 0)
 
 -- There is a place for each of so many cells in five lists.
 pub record Room (cells : ℕ) (dsts dues owner left stamps : List ℕ) : Type 0 where

@@ -9,8 +9,8 @@ ghost use Rattle.rows.specs.Steps.{Loaded, Room, RanRows};
 use cells::gather_last;
 use cells::lay_out;
 use lists::sum;
+use run::Ending;
 use run::run;
-use slack::Stop;
 
 // A number for each cell that a table may have.
 fn no_cells() -> [u16; 1024]
@@ -33,16 +33,16 @@ fn run_in(
     stamps: &mut [u16],
     plan: &mut [u16],
     arrivals: &mut [u16],
-) -> Stop
+) -> Ending
     requires { ⌜ Loaded (freight nodes (now dst) (now len) (now due) (now links)) (now plan) (now arrivals)
         × Room (total (now len)) (now dsts) (now dues) (now owner) (now left) (now stamps) ⌝ }
     ensures { λ r. ⌜ RanRows (freight nodes (now (dst .entry)) (now (len .entry)) (now (due .entry))
         (now (links .entry))) (length (now (plan .entry))) r (now (plan .exit)) (now (arrivals .exit)) ⌝ }
 {
     lay_out(len, dst, due, links, dsts, dues, owner, left);
-    let stop = run(nodes, dsts, dues, owner, left, plan, stamps);
+    let ending = run(nodes, dsts, dues, owner, left, plan, stamps);
     gather_last(len, stamps, arrivals);
-    stop
+    ending
 }
 
 // Plans a whole run of rows with at most 1,024 cells in all.
@@ -54,7 +54,7 @@ pub fn run_rows(
     links: &[u16],
     plan: &mut [u16],
     arrivals: &mut [u16],
-) -> Stop
+) -> Ending
     requires { ⌜ Loaded (freight nodes (now dst) (now len) (now due) (now links)) (now plan) (now arrivals) ⌝ }
     ensures { λ r. ⌜ RanRows (freight nodes (now (dst .entry)) (now (len .entry)) (now (due .entry))
         (now (links .entry))) (length (now (plan .entry))) r (now (plan .exit)) (now (arrivals .exit)) ⌝ }

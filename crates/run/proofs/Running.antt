@@ -3,27 +3,29 @@
 -- cleared, and is delivered at instant 0.
 --     idle-on                     the plan of more slots than the run needs
 --     all-stamped                 the stamps over cleared arrivals are the arrivals
+--     looks-stamped               the looks of the instants up to one, from the state and the stamps there
 --     Over, accepted, refused     what `run` gives, from what `walk` left
 -- Assumes nothing.
 use mathlib.Core.Path.{_≡_, refl, _∙_, ap, sym}
 use mathlib.Core.Bool.{Bool, true, false, cond}
-use Prim.Native.Nat.{ℕ, zero, suc, _+_, _-_, _*_, _≤_, _<_}
+use Prim.Native.Nat.{ℕ, zero, suc, _+_, _-_, _*_, _≤_, _<_, _^_}
 use native.Mathlib.Omega.{arith}
 use native.Mathlib.Decide.{decLt}
-use borrow.Author.Tests.{lt-ltb, le-ltb, ne-eqb}
+use borrow.Author.Tests.{lt-ltb, le-ltb, ne-eqb, eqb-true, eqb-false}
 use mathlib.Core.List.{List, [], _++_, append-assoc, append-nil}
-use lib.Dec.{ltb}
+use lib.Dec.{ltb, eqb}
 use lib.IntN.{ℤ}
 use borrow.Rule.Slice.PartMut.{putMid}
 use lib.ListN.{length, getD, take, drop, replicate, length-drop, drop-of-length-le}
 use lib.ListN.{length-replicate, getD-replicate, replicate-append-replicate}
 use lib.Seq.{take-at, length-take-le}
-use Rattle.lists.specs.Lists.{largest}
+use Rattle.lists.specs.Lists.{total, largest}
 use Rattle.lists.proofs.Figures.{at-most-largest}
 use Rattle.lists.proofs.Build.{length-build, getD-build, build-ext, build-const, is-build}
 use Rattle.slack.specs.Slack.{Traffic, OnRing, underWay, pick, slotOf, stateAt, planOf}
 use Rattle.slack.specs.Slack.{deliveredFrom, arrivalsOf, anyUnderWay}
 use Rattle.slack.specs.declared.Stop.{Stop}
+use Rattle.run.specs.declared.Ending.{Ending}
 use Rattle.slack.proofs.Ending.{stop-first, stop-delivered}
 use Rattle.slack.proofs.Rule.{pick-least, plan-length, state-length, state-on-ring, state-less}
 use Rattle.slack.proofs.Rule.{moved-entry, none-under-way}
@@ -31,6 +33,9 @@ use Rattle.slot.specs.Steps.{named, stamped}
 use Rattle.slot.proofs.Sending.{named-there, named-under-way}
 use Rattle.cells.specs.Cells.{ownerOf, toldBy, endBy}
 use Rattle.cells.proofs.Telling.{told-long, told-joined, told-idle, cell-named, none-named, stop-cell}
+use Rattle.cells.specs.Looks.{looksTo, looksOf}
+use Rattle.cells.specs.Steps.{looksBy}
+use Rattle.cells.proofs.Looking.{seen, looks-by-cells, seen-waiting, seen-there}
 use Rattle.run.specs.Steps.{stampedBy, Ready, Walked, Ran}
 
 -- links to go at an instant
@@ -166,6 +171,24 @@ module _ (T : Traffic) (start list : List ℕ) (ring : OnRing T start)
       one : (i : ℕ) → Stamped t i → stamp t i ≡ deliveredFrom T start i slots 0
       one i r = sym (arrives-at T start i (stamp t i) (r .1) slots 0 (omega arith) (omega (arith, r .0)))
 
+  -- How often each cell was looked at: a delivered one up to its stamp, one that is under way at every instant.
+  pub looks-stamped : (t : ℕ) → looksBy t (stateAt T start t) (stampedBy T start list t) ≡ looksTo T start (suc t)
+  unfolding looksBy
+  looks-stamped t =
+      rw (state-length T start t)
+      (ap total (sym (build-ext (length start) (seen T start (suc t)) _ each)) ∙ sym (looks-by-cells T start (suc t)))
+    where
+      each : (i : ℕ) → i < length start → seen T start (suc t) i ≡ cond (eqb (togo T start t i) 0) (stamp t i) (suc t)
+      each i h = go (eqb (togo T start t i) 0) refl
+        where
+          go : (b : Bool) → eqb (togo T start t i) 0 ≡ b → seen T start (suc t) i ≡ cond b (stamp t i) (suc t)
+          go true e =
+              let (soon, arrives) = stamped-there i h t (eqb-true (togo T start t i) 0 e) in
+              seen-there T start i (stamp t i) (suc t) h (arrives .before) (arrives .there) (omega (arith, soon))
+          go false e =
+              seen-waiting T start i (suc t) (λ s l.
+              omega (arith, state-less T start i h s t (omega arith), eqb-false (togo T start t i) 0 e))
+
 split : (n s m l : ℕ) → l ≡ s + m → n * l ≡ s * n + m * n
 split n s m l e = rw e (omega arith)
 
@@ -231,6 +254,23 @@ module _ {T : Traffic} {owner start plan₀ : List ℕ} {stop : Stop} {left plan
   pub known-cell : stop .row ≤ length owner
   known-cell = rw (o .walked .stops) (omega (arith, stop-cell T start last, o .ready .owned))
 
+  arrivals-each : length arrivals ≡ length start
+  arrivals-each = o .arrivals-long ∙ ap length cleared-all ∙ length-replicate (length start) 0
+
+  -- There is a stamp for each cell, and there are not too many of them to count.
+  pub each-cell : (length arrivals ≡ length left) × (length left < 2 ^ 16)
+  each-cell =
+      let same : length left ≡ length start = ap length (o .walked .state) ∙ state-length T start end in
+      (arrivals-each ∙ sym same, omega (arith, o .ready .few))
+
+  -- The looks that are counted from what the walk left are those of the run.
+  pub counted : (looks : ℕ) → looks ≡ looksBy end left arrivals → looks ≡ looksOf T start last
+  unfolding looksOf
+  counted looks e =
+      e ∙ rw (o .walked .state, o .walked .stamps)
+      (looks-stamped T start (o .arrivals₀) (o .ready .ring) cleared-all end)
+      ∙ ap (λ s. looksTo T start (suc (s .slot .0))) (o .walked .stops)
+
   -- where the run ended, told in rows
   row-is : (r : Stop) → r ≡ endBy owner stop → r .row ≡ ownerOf owner (stop .row)
   unfolding endBy
@@ -270,28 +310,29 @@ module _ {T : Traffic} {owner start plan₀ : List ℕ} {stop : Stop} {left plan
       stamps-arrive : stampedBy T start (o .arrivals₀) end ≡ arrivalsOf T start last
       stamps-arrive = all-stamped T start (o .arrivals₀) (o .ready .ring) cleared-all end last in-time done
 
-      pub accepted : (r : Stop) → r ≡ endBy owner stop
+      pub accepted : (r : Ending) → r .stop ≡ endBy owner stop → r .looks ≡ looksBy end left arrivals
           → Ran T owner start (length plan₀) r left (putMid (end * T .nodes) behind plan rest) arrivals
-      accepted r e =
-          let none : r .row ≡ 0 = row-is r e ∙ ap (ownerOf owner) on-time ∙ none-named owner in
+      accepted r e c =
+          let none : r .stop .row ≡ 0 = row-is (r .stop) e ∙ ap (ownerOf owner) on-time ∙ none-named owner in
           record {
             stops = e ∙ ap (endBy owner) (o .walked .stops);
-            leaves = o .walked .state ∙ ap (stateAt T start) (sym (slot-is r e));
+            looked = counted (r .looks) c;
+            leaves = o .walked .state ∙ ap (stateAt T start) (sym (slot-is (r .stop) e));
             carries = whole-plan ∙ rw none;
             arrives = o .walked .stamps ∙ stamps-arrive ∙ rw none;
           }
 
   pub refused : (stop .row ≡ 0 → ⊥) → (plan′ arrivals′ : List ℕ)
       → plan′ ≡ replicate {A = ℕ} (length plan) 0 → arrivals′ ≡ replicate {A = ℕ} (length arrivals) 0
-      → (r : Stop) → r ≡ endBy owner stop → Ran T owner start (length plan₀) r left plan′ arrivals′
-  refused is-late plan′ arrivals′ p a r e =
-      let l : length arrivals ≡ length start
-      = o .arrivals-long ∙ ap length cleared-all ∙ length-replicate (length start) 0 in
-      let some : r .row ≡ 0 → ⊥
-      = λ z. is-late (cell-named owner (o .ready .named) (stop .row) known-cell (sym (row-is r e) ∙ z)) in
+      → (r : Ending) → r .stop ≡ endBy owner stop → r .looks ≡ looksBy end left arrivals
+      → Ran T owner start (length plan₀) r left plan′ arrivals′
+  refused is-late plan′ arrivals′ p a r e c =
+      let some : r .stop .row ≡ 0 → ⊥
+      = λ z. is-late (cell-named owner (o .ready .named) (stop .row) known-cell (sym (row-is (r .stop) e) ∙ z)) in
       record {
         stops = e ∙ ap (endBy owner) (o .walked .stops);
-        leaves = o .walked .state ∙ ap (stateAt T start) (sym (slot-is r e));
-        carries = p ∙ rw (o .plan-long, ne-eqb (r .row) 0 some);
-        arrives = a ∙ rw (l, ne-eqb (r .row) 0 some);
+        looked = counted (r .looks) c;
+        leaves = o .walked .state ∙ ap (stateAt T start) (sym (slot-is (r .stop) e));
+        carries = p ∙ rw (o .plan-long, ne-eqb (r .stop .row) 0 some);
+        arrives = a ∙ rw (arrivals-each, ne-eqb (r .stop .row) 0 some);
       }

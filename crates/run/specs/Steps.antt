@@ -13,7 +13,9 @@ use Rattle.slack.specs.Figure.{figuresOf}
 use Rattle.slack.specs.declared.Stop.{Stop}
 use Rattle.slot.specs.Steps.{stamped, SlotPlannedBy}
 use Rattle.cells.specs.Cells.{toldBy, endBy}
+use Rattle.cells.specs.Looks.{looksOf}
 use Rattle.cells.specs.Steps.{AboveZero}
+use Rattle.run.specs.declared.Ending.{Ending}
 
 -- The list after the first t slots of a run, each of which has stamped its rows with the instant at which it ends.
 unfoldable pub stampedBy : Traffic → (start list : List ℕ) → ℕ → List ℕ
@@ -49,13 +51,14 @@ pub record Walked (T : Traffic) (owner start plan arrivals : List ℕ) (stop : S
   pub carries : plan′ ≡ toldBy owner (planOf T start (stop .slot .0)) ++ drop (stop .slot .0 * T .nodes) plan
   pub stamps : arrivals′ ≡ stampedBy T start arrivals (stop .slot .0)
 
--- What a run gives: where it ended and with which row, the state there, and both areas, which hold the plan, told in
--- rows, and the cells' arrivals where no cell is late and zeros where one is.
-pub record Ran (T : Traffic) (owner start : List ℕ) (room : ℕ) (stop : Stop)
+-- What a run gives: where it ended and with which row, its looks, the state there, and both areas, which hold the plan,
+-- told in rows, and the cells' arrivals where no cell is late and zeros where one is.
+pub record Ran (T : Traffic) (owner start : List ℕ) (room : ℕ) (ending : Ending)
     (left′ plan′ arrivals′ : List ℕ) : Type 0 where
-  pub stops : stop ≡ endBy owner (stopOf T start (largest (T .due)))
-  pub leaves : left′ ≡ stateAt T start (stop .slot .0)
+  pub stops : ending .stop ≡ endBy owner (stopOf T start (largest (T .due)))
+  pub looked : ending .looks ≡ looksOf T start (largest (T .due))
+  pub leaves : left′ ≡ stateAt T start (ending .stop .slot .0)
   pub carries : plan′
-      ≡ cond (eqb (stop .row) 0) (toldBy owner (planOf T start (largest (T .due)))) (replicate room 0)
+      ≡ cond (eqb (ending .stop .row) 0) (toldBy owner (planOf T start (largest (T .due)))) (replicate room 0)
   pub arrives : arrivals′
-      ≡ cond (eqb (stop .row) 0) (arrivalsOf T start (largest (T .due))) (replicate (length start) 0)
+      ≡ cond (eqb (ending .stop .row) 0) (arrivalsOf T start (largest (T .due))) (replicate (length start) 0)

@@ -1,6 +1,6 @@
 // A whole run of cells: instant by instant, until a cell is late or none is under way. What it gives is told in rows.
 ghost use mathlib.Core.Path.{_≡_};
-ghost use Prim.Native.Nat.{_≤_};
+ghost use Prim.Native.Nat.{_≤_, _<_, _^_};
 ghost use lib.IntN.{ℤ, pos};
 ghost use lib.ListN.{length, replicate};
 ghost use Rattle.slack.specs.Slack.{traffic};
@@ -8,6 +8,7 @@ ghost use Rattle.slack.specs.Figure.{figuresOf};
 ghost use Rattle.slot.specs.Steps.{Slotted};
 ghost use Rattle.cells.specs.Cells.{endBy};
 ghost use Rattle.run.specs.Steps.{Ready, SlotTold, Walked, Ran};
+use cells::count_looks;
 use cells::row_of;
 use cells::tell_in_rows;
 use lists::clear;
@@ -18,6 +19,12 @@ use slack::is_late;
 use slot::any_under_way;
 use slot::plan_slot;
 use slot::write_figures;
+
+// How a run ended: where and with which row, and how many looks it took.
+pub struct Ending {
+    pub stop: Stop,
+    pub looks: u32,
+}
 
 // Plans slot t and tells it in rows, where each cell's owner is listed.
 fn plan_slot_in_rows(
@@ -112,7 +119,7 @@ fn run_figured(
     figure: &mut [i32],
     plan: &mut [u16],
     arrivals: &mut [u16],
-) -> Stop
+) -> Ending
     requires { ⌜ Ready (traffic nodes (now dst) (now due)) (now owner) (now left) (now plan) (now arrivals)
         × (now figure ≡ figuresOf (traffic nodes (now dst) (now due)) (now left)) ⌝ }
     ensures { λ r. ⌜ Ran (traffic nodes (now (dst .entry)) (now (due .entry)))
@@ -121,6 +128,7 @@ fn run_figured(
 {
     clear(arrivals); // no slot stamps a cell that has nothing to go
     let stop = walk(nodes, dst, due, owner, left, figure, plan, arrivals);
+    let looks = count_looks(Slot(stop.slot.0), left, arrivals);
     let ended = end_in_rows(owner, stop);
     if stop.row == 0 {
         let idle = stop.slot.0 as usize * nodes as usize;
@@ -129,7 +137,7 @@ fn run_figured(
         clear(plan);
         clear(arrivals);
     }
-    ended
+    Ending { stop: ended, looks }
 }
 
 // A place for the figure of each cell that a table may have.
@@ -148,7 +156,7 @@ pub fn run(
     left: &mut [u16],
     plan: &mut [u16],
     arrivals: &mut [u16],
-) -> Stop
+) -> Ending
     requires { ⌜ Ready (traffic nodes (now dst) (now due)) (now owner) (now left) (now plan) (now arrivals)
         × (length (now left) ≤ 1024) ⌝ }
     ensures { λ r. ⌜ Ran (traffic nodes (now (dst .entry)) (now (due .entry)))

@@ -54,7 +54,8 @@ fn two_rows(a: Row, b: Row) -> Columns {
 fn say_plan(catalogue: &[u8], a: Row, b: Row) {
     let mut plan = [0u16; 16];
     let mut arrivals = [0u16; 2];
-    let answer = plan_columns(4, 2, two_rows(a, b), &mut plan, &mut arrivals);
+    let reply = plan_columns(4, 2, two_rows(a, b), &mut plan, &mut arrivals);
+    let answer = reply.answer;
     say(catalogue, answer);
 }
 

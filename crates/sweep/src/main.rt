@@ -6,6 +6,7 @@ ghost use Rattle.planner.specs.Planner.{Planned};
 use area::Area;
 use area::ROOM;
 use planner::Answer;
+use planner::Reply;
 use planner::Summary;
 use planner::plan;
 use planner::plan_columns;
@@ -61,7 +62,7 @@ fn plan_three(
     count: usize,
     area: &mut [u16],
     arrivals: &mut [u16],
-) -> Answer
+) -> Reply
     requires { ⌜ count ≤ 3 ⌝ }
     ensures { λ r. ⌜ Planned nodes (take count rows) (now (area .entry)) (now (arrivals .entry)) r (now (area .exit))
         (now (arrivals .exit)) ⌝ }
@@ -198,11 +199,13 @@ fn print_plan(nodes: usize, plan: &[u16])
     }
 }
 
-// Writes what a case came to: the answer, the entries that it touched, and where the table was accepted its figures,
-// arrivals and plan.
-fn print_outcome(nodes: usize, answer: Answer, plan: &[u16], arrivals: &[u16])
+// Writes what a case came to: the looks, the answer, the entries that it touched, and where the table was accepted its
+// figures, arrivals and plan.
+fn print_outcome(nodes: usize, reply: Reply, plan: &[u16], arrivals: &[u16])
     requires { ⌜ 0 < nodes ⌝ }
 {
+    print_line(b"looks", reply.looks as u64);
+    let answer = reply.answer;
     match answer {
         Answer::Refused(r) => {
             print_answer(r.number, r.row, r.slot.0);
@@ -220,12 +223,12 @@ fn print_outcome(nodes: usize, answer: Answer, plan: &[u16], arrivals: &[u16])
 }
 
 // Writes what planning in fresh areas came to, with just the entries that it touched.
-fn print_areas(nodes: usize, answer: Answer, plan: &[u16], arrivals: &[u16])
+fn print_areas(nodes: usize, reply: Reply, plan: &[u16], arrivals: &[u16])
     requires { ⌜ 0 < nodes ⌝ }
 {
     let entries = touched(plan);
     let instants = touched(arrivals);
-    print_outcome(nodes, answer, &plan[..entries], &arrivals[..instants]);
+    print_outcome(nodes, reply, &plan[..entries], &arrivals[..instants]);
 }
 
 // Plans one case in fresh areas and writes what it came to.
@@ -234,11 +237,11 @@ fn run_case(letter: &[u8], nodes: u16, rows: [Row; 3], count: usize)
 {
     let mut plan = plan_area();
     let mut arrivals = arrivals_area();
-    let answer = plan_three(nodes, rows, count, &mut plan, &mut arrivals);
+    let reply = plan_three(nodes, rows, count, &mut plan, &mut arrivals);
     io::write_all(OUT, b"case=");
     io::write_all(OUT, letter);
     io::write_all(OUT, b"\n");
-    print_areas(nodes as usize, answer, &plan, &arrivals);
+    print_areas(nodes as usize, reply, &plan, &arrivals);
 }
 
 // The cases of document 01's sweep table that are accepted or late.
@@ -315,8 +318,8 @@ fn run_edited(table: &Area) {
     let mut arrivals = arrivals_area();
     let rows = area::row_count(table) as usize;
     let columns = area::columns_of(table);
-    let answer = plan_columns(table[0], rows, columns, &mut plan, &mut arrivals);
-    print_areas(4, answer, &plan, &arrivals);
+    let reply = plan_columns(table[0], rows, columns, &mut plan, &mut arrivals);
+    print_areas(4, reply, &plan, &arrivals);
 }
 
 // Edits a table, and plans it.

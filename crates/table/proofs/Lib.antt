@@ -1,2 +1,4 @@
 pub mod Judging
 pub mod Rows
+pub mod Whole
+pub mod WellFormed

@@ -3,18 +3,19 @@
 --     length-listed               as many rows as were asked for
 --     listed-columns              at most 512 rows are all there again in their columns
 --     rows-of-columns, same-rows      the rows that columns of just their length hold
+--     listed-fronts, fronts-same      those of the columns' fronts
 -- Assumes nothing.
 use mathlib.Core.Path.{_≡_, refl, _∙_, ap, sym}
 use Prim.Native.Nat.{ℕ, zero, suc, _≤_, _<_}
 use native.Mathlib.Omega.{arith}
 use mathlib.Core.List.{List, [], _∷_, map, _++_}
-use lib.ListN.{length, getD, replicate, List·getD-map}
-use lib.Seq.{getD-take}
+use lib.ListN.{length, getD, take, replicate, List·getD-map}
+use lib.Seq.{getD-take, length-take-le}
 use Rattle.lists.proofs.Build.{length-build, build-ext, build-of}
 use Rattle.table.specs.declared.Row.{Row}
 use Rattle.table.specs.declared.Columns.{Columns}
 use Rattle.table.specs.Table.{destinations, lengths, dues}
-use Rattle.table.specs.Steps.{none, column, columns, listed, sources, rowsOf, SameRows}
+use Rattle.table.specs.Steps.{none, column, columns, listed, sources, rowsOf, SameRows, Columned}
 
 -- ---- one column
 getD-zeros : (p j : ℕ) → getD {A = ℕ} (replicate p 0) j 0 ≡ zero
@@ -93,3 +94,26 @@ same-rows rows few =
       len-each = length-map (λ r. r .len) rows ∙ sym s;
       due-each = length-map (λ r. r .due) rows ∙ sym s;
     }
+
+-- ---- the rows of the columns' fronts
+pub listed-fronts : (count : ℕ) (c : Columns) → count ≤ length (c .src)
+    → listed count c
+    ≡ rowsOf (take count (c .src)) (take count (c .dst)) (take count (c .len)) (take count (c .due))
+unfolding listed rowsOf
+listed-fronts count c h =
+    rw (length-take-le count (c .src) h)
+    (build-ext count _ _ (λ i l. rw (
+      getD-take count (c .src) i 0 l,
+      getD-take count (c .dst) i 0 l,
+      getD-take count (c .len) i 0 l,
+      getD-take count (c .due) i 0 l,
+    )))
+
+pub fronts-same : (count : ℕ) (c : Columns) → count ≤ 512 → Columned c
+    → SameRows (take count (c .src)) (take count (c .dst)) (take count (c .len)) (take count (c .due))
+fronts-same count c h all =
+    let s : length (take count (c .src)) ≡ count = length-take-le count (c .src) (omega (arith, all .src-all)) in
+    let d : length (take count (c .dst)) ≡ count = length-take-le count (c .dst) (omega (arith, all .dst-all)) in
+    let z : length (take count (c .len)) ≡ count = length-take-le count (c .len) (omega (arith, all .len-all)) in
+    let u : length (take count (c .due)) ≡ count = length-take-le count (c .due) (omega (arith, all .due-all)) in
+    record { few = omega arith; dst-each = d ∙ sym s; len-each = z ∙ sym s; due-each = u ∙ sym s }

@@ -49,6 +49,17 @@ unfoldable pub rowsOf : (src dst len due : List ℕ) → List Row
 rowsOf src dst len due =
     build (length src) (λ i. record { src = getD src i 0; dst = getD dst i 0; len = getD len i 0; due = getD due i 0 })
 
+-- Four columns of 512 places as one.
+abbrev pub byColumns : (src dst len due : List ℕ) → Columns
+byColumns src dst len due = record { src = src; dst = dst; len = len; due = due }
+
+-- Each column has 512 places.
+pub record Columned (c : Columns) : Type 0 where
+  pub src-all : length (c .src) ≡ most-rows
+  pub dst-all : length (c .dst) ≡ most-rows
+  pub len-all : length (c .len) ≡ most-rows
+  pub due-all : length (c .due) ≡ most-rows
+
 -- The rows that a count and columns of 512 places stand for.
 unfoldable pub listed : ℕ → Columns → List Row
 listed count c = build count (λ i. record {

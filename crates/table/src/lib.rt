@@ -3,8 +3,8 @@ ghost use mathlib.Core.Path.{_≡_};
 ghost use lib.ListN.{length, getD};
 ghost use Rattle.lists.specs.Lists.{build};
 ghost use Rattle.ring.specs.Ring.{distance};
-ghost use Rattle.table.specs.Table.{rowRefusal, judgeRows, judgeAll};
-ghost use Rattle.table.specs.Steps.{rowsOf, SameRows, Measuring};
+ghost use Rattle.table.specs.Table.{refuse, rowRefusal, judgeRows, judgeAll, judge};
+ghost use Rattle.table.specs.Steps.{rowsOf, byColumns, Columned, listed, SameRows, Measuring};
 use lists::sum;
 use ring::Node;
 use ring::Slot;
@@ -92,6 +92,17 @@ pub fn judge_rows(nodes: u16, src: &[u16], dst: &[u16], len: &[u16], due: &[u16]
     Verdict::Good
 }
 
+// A refusal that names neither row nor slot.
+fn refused(number: u16) -> Verdict
+    ensures { λ r. ⌜ r ≡ Verdict.Refused (refuse number 0 0) ⌝ }
+{
+    Verdict::Refused(Refusal {
+        number,
+        row: 0,
+        slot: Slot(0),
+    })
+}
+
 // The verdict on the rows of four columns: that of the first bad row, and where there is none that on their cells.
 pub fn judge_all(nodes: u16, src: &[u16], dst: &[u16], len: &[u16], due: &[u16]) -> Verdict
     requires { ⌜ SameRows (now src) (now dst) (now len) (now due) ⌝ }
@@ -104,15 +115,43 @@ pub fn judge_all(nodes: u16, src: &[u16], dst: &[u16], len: &[u16], due: &[u16])
         Verdict::Refused(r) => Verdict::Refused(r),
         Verdict::Good => {
             if 1024 < cells {
-                return Verdict::Refused(Refusal {
-                    number: 11,
-                    row: 0,
-                    slot: Slot(0),
-                });
+                return refused(11);
             }
             Verdict::Good
         }
     }
+}
+
+// Judges the table of the first `rows` rows of four columns: the nodes, the number of rows, the rows in order, and
+// their cells.
+pub fn judge_columns(
+    nodes: u16,
+    rows: usize,
+    src: &[u16],
+    dst: &[u16],
+    len: &[u16],
+    due: &[u16],
+) -> Verdict
+    requires { ⌜ Columned (byColumns (now src) (now dst) (now len) (now due)) ⌝ }
+    ensures { λ r. ⌜ r ≡ judge nodes
+        (listed rows (byColumns (now (src .entry)) (now (dst .entry)) (now (len .entry)) (now (due .entry)))) ⌝ }
+{
+    if nodes < 2 {
+        return refused(1);
+    }
+    if 32 < nodes {
+        return refused(1);
+    }
+    if 512 < rows {
+        return refused(2);
+    }
+    judge_all(
+        nodes,
+        &src[..rows],
+        &dst[..rows],
+        &len[..rows],
+        &due[..rows],
+    )
 }
 
 // Writes down how many links each row has to go.

@@ -14,11 +14,11 @@ enum-known-a-2 c = search needs
 
 returns : tie.Need-returns
 unfolding flatOf
-returns c = sym (ap flatOf (c .before .a .given .1))
+returns c = sym (ap (λ a. flatOf a (c .before .before .before .args .looks)) (c .before .a .given .1))
 
 returns-2 : tie.Need-returns-2
 unfolding flatOf
-returns-2 c = sym (ap flatOf (c .before .a2 .given .1))
+returns-2 c = sym (ap (λ a. flatOf a (c .before .before .before .args .looks)) (c .before .a2 .given .1))
 
 pub flat-answer-spec : {M : Type 1} → statement M
 flat-answer-spec = tie.close (tie.spec enum-known-a enum-known-a-2 returns returns-2)

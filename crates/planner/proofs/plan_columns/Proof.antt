@@ -1,103 +1,113 @@
--- `planner::plan_columns` meets its contract: the nodes and the number of rows are judged first, and then the columns'
--- fronts.
+-- `planner::plan_columns` meets its contract: the table is judged, and where it is good its columns' fronts are planned.
 -- Assumes nothing.
-use mathlib.Core.Path.{_≡_, sym}
-use native.Mathlib.Omega.{arith}
-use lib.ListN.{length}
-use lib.Seq.{length-take-le}
-use Rattle.table.specs.Steps.{listed}
-use Rattle.table.proofs.Rows.{length-listed}
-use Rattle.planner.proofs.Judged.{judge-few, judge-wide, judge-many, turned-away, listed-fronts, fronts-tabled}
+use mathlib.Core.Path.{_∙_, sym}
 use borrow.Author.Needs.{needs}
+use Rattle.table.specs.declared.Columns.{Columns}
+use Rattle.table.specs.Steps.{Columned}
+use Rattle.table.proofs.Whole.{Held, in-column, in-front, fronts-good}
+use Rattle.planner.proofs.Judged.{turned-away, tabled, let-through}
 use Rattle.planner.proofs.plan_columns.Statement.{statement}
 use Rattle.planner.proofs.plan_columns.Tie as tie
 
-refusal-requires : tie.Need-refusal-requires
-refusal-requires c κs = search needs
+-- The place where the function begins, from where the table is judged.
+abbrev begun-at : tie.After-judge-columns → tie.Start
+begun-at c = c .before .before .before .before .before .before .before .before .before .before .before
 
-returns : tie.Need-returns
-returns c =
-    let a = c .before .before .before .before .args in
-    turned-away (a .nodes) (listed (a .rows) (a .columns)) (a .plan .now) (a .arrivals .now)
-    (judge-few (a .nodes) (listed (a .rows) (a .columns)) (omega arith)) (λ z. omega arith) (c .refusal .ensures)
+-- Each column has 512 places.
+columned : (s : tie.Start) → Columned (s .args .columns)
+columned s =
+    record {
+      src-all = search (needs, s .good);
+      dst-all = search (needs, s .good);
+      len-all = search (needs, s .good);
+      due-all = search (needs, s .good);
+    }
 
-refusal-requires-2 : tie.Need-refusal-requires-2
-refusal-requires-2 c κs = search needs
+-- The columns, from where it is told that the table is good.
+abbrev its : tie.After-enum-told → Columns
+its c = begun-at (c .before .before) .args .columns
 
-returns-2 : tie.Need-returns-2
-returns-2 c =
-    let a = c .before .before .before .before .before .args in
-    turned-away (a .nodes) (listed (a .rows) (a .columns)) (a .plan .now) (a .arrivals .now)
-    (judge-wide (a .nodes) (listed (a .rows) (a .columns)) (omega arith)) (λ z. omega arith) (c .refusal2 .ensures)
+-- The columns hold a good table, where it is planned.
+held : (c : tie.After-enum-told) →
+    let a = begun-at (c .before .before) .args in
+    Held (a .nodes) (a .rows) (a .columns)
+held c =
+    record {
+      columned = columned (begun-at (c .before .before));
+      good = sym (c .before .before .judge-columns .ensures) ∙ c .enum-told .given .1;
+    }
 
-refusal-requires-3 : tie.Need-refusal-requires-3
-refusal-requires-3 c κs = search needs
+slice-aggregate-judge-columns : tie.Need-slice-aggregate-judge-columns
+slice-aggregate-judge-columns c = search needs
 
-returns-3 : tie.Need-returns-3
-returns-3 c =
-    let a = c .before .before .before .before .before .before .args in
-    turned-away (a .nodes) (listed (a .rows) (a .columns)) (a .plan .now) (a .arrivals .now)
-    (judge-many (a .nodes) (listed (a .rows) (a .columns)) (omega arith) (omega arith)
-    (rw (length-listed (a .rows) (a .columns)) (omega arith))) (λ z. omega arith) (c .refusal3 .ensures)
+slice-aggregate-judge-columns-2 : tie.Need-slice-aggregate-judge-columns-2
+slice-aggregate-judge-columns-2 c = search needs
+
+slice-aggregate-judge-columns-3 : tie.Need-slice-aggregate-judge-columns-3
+slice-aggregate-judge-columns-3 c = search needs
+
+slice-aggregate-judge-columns-4 : tie.Need-slice-aggregate-judge-columns-4
+slice-aggregate-judge-columns-4 c = search needs
+
+judge-columns-requires : tie.Need-judge-columns-requires
+judge-columns-requires c κs = columned (c .before .before .before .before .before .before .before .before .before .before)
+
+enum-known-verdict : tie.Need-enum-known-verdict
+enum-known-verdict c = search needs
+
+turn-away-requires : tie.Need-turn-away-requires
+turn-away-requires c κs = search needs
+
+enum-told : tie.Need-enum-told
+enum-told c = search needs
 
 array-share-prefix-src : tie.Need-array-share-prefix-src
-array-share-prefix-src c =
-    let a = c .before .before .before .before .before .before .before .before .before .args in
-    let e : length (a .columns .src) ≡ 512 = search needs in
-    omega arith
+array-share-prefix-src c = in-column (held c) (its c .src) (held c .columned .src-all)
 
-slice-aggregate-plan-rows : tie.Need-slice-aggregate-plan-rows
-slice-aggregate-plan-rows c =
-    let a = c .before .before .before .before .before .before .before .before .before .before .args in
-    let e : length (a .columns .src) ≡ 512 = search needs in
-    sym (length-take-le (a .rows) (a .columns .src) (omega arith))
+slice-aggregate-plan-good : tie.Need-slice-aggregate-plan-good
+slice-aggregate-plan-good c =
+    let told = c .before in
+    in-front (held told) (its told .src) (held told .columned .src-all)
 
 array-share-prefix-dst : tie.Need-array-share-prefix-dst
 array-share-prefix-dst c =
-    let a = c .before .before .before .before .before .before .before .before .before .before .args in
-    let e : length (a .columns .dst) ≡ 512 = search needs in
-    omega arith
+    let told = c .before in
+    in-column (held told) (its told .dst) (held told .columned .dst-all)
 
-slice-aggregate-plan-rows-2 : tie.Need-slice-aggregate-plan-rows-2
-slice-aggregate-plan-rows-2 c =
-    let a = c .before .before .before .before .before .before .before .before .before .before .before .args in
-    let e : length (a .columns .dst) ≡ 512 = search needs in
-    sym (length-take-le (a .rows) (a .columns .dst) (omega arith))
+slice-aggregate-plan-good-2 : tie.Need-slice-aggregate-plan-good-2
+slice-aggregate-plan-good-2 c =
+    let told = c .before .before in
+    in-front (held told) (its told .dst) (held told .columned .dst-all)
 
 array-share-prefix-len : tie.Need-array-share-prefix-len
 array-share-prefix-len c =
-    let a = c .before .before .before .before .before .before .before .before .before .before .before .args in
-    let e : length (a .columns .len) ≡ 512 = search needs in
-    omega arith
+    let told = c .before .before in
+    in-column (held told) (its told .len) (held told .columned .len-all)
 
-slice-aggregate-plan-rows-3 : tie.Need-slice-aggregate-plan-rows-3
-slice-aggregate-plan-rows-3 c =
-    let a = c .before .before .before .before .before .before .before .before .before .before .before .before .args in
-    let e : length (a .columns .len) ≡ 512 = search needs in
-    sym (length-take-le (a .rows) (a .columns .len) (omega arith))
+slice-aggregate-plan-good-3 : tie.Need-slice-aggregate-plan-good-3
+slice-aggregate-plan-good-3 c =
+    let told = c .before .before .before in
+    in-front (held told) (its told .len) (held told .columned .len-all)
 
 array-share-prefix-due : tie.Need-array-share-prefix-due
 array-share-prefix-due c =
-    let a = c .before .before .before .before .before .before .before .before .before .before .before .before .args in
-    let e : length (a .columns .due) ≡ 512 = search needs in
-    omega arith
+    let told = c .before .before .before in
+    in-column (held told) (its told .due) (held told .columned .due-all)
 
-slice-aggregate-plan-rows-4 : tie.Need-slice-aggregate-plan-rows-4
-slice-aggregate-plan-rows-4 c =
-    let back10 = c .before .before .before .before .before .before .before .before .before .before in
-    let a = back10 .before .before .before .args in
-    let e : length (a .columns .due) ≡ 512 = search needs in
-    sym (length-take-le (a .rows) (a .columns .due) (omega arith))
+slice-aggregate-plan-good-4 : tie.Need-slice-aggregate-plan-good-4
+slice-aggregate-plan-good-4 c =
+    let told = c .before .before .before .before in
+    in-front (held told) (its told .due) (held told .columned .due-all)
 
-plan-rows-requires : tie.Need-plan-rows-requires
-plan-rows-requires c κs =
-    let back10 = c .before .before .before .before .before .before .before .before .before .before in
-    let a = back10 .before .before .before .before .before .args in
-    let e : length (a .columns .src) ≡ 512 = search needs in
-    let f : length (a .columns .dst) ≡ 512 = search needs in
-    let l : length (a .columns .len) ≡ 512 = search needs in
-    let g : length (a .columns .due) ≡ 512 = search needs in
-    fronts-tabled (a .nodes) (a .rows) (a .columns) (omega arith) (omega arith) (omega arith) e f l g
+plan-good-requires : tie.Need-plan-good-requires
+plan-good-requires c κs =
+    let told = held (c .before .before .before .before .before .before) in
+    (tabled told, fronts-good told)
+
+returns : tie.Need-returns
+returns c =
+    let judged = c .before .before .before .before in
+    turned-away (sym (judged .judge-columns .ensures) ∙ c .before .before .verdict .given .1) (c .turn-away .ensures)
 
 same-length : tie.Need-same-length
 same-length c = search needs
@@ -105,32 +115,33 @@ same-length c = search needs
 same-length-2 : tie.Need-same-length-2
 same-length-2 c = search needs
 
-returns-4 : tie.Need-returns-4
-returns-4 c =
-    let back10 = c .before .before .before .before .before .before .before .before .before .before in
-    let a = back10 .before .before .before .before .before .before .before .before .before .before .args in
-    let e : length (a .columns .src) ≡ 512 = search needs in
-    rw (listed-fronts (a .rows) (a .columns) (omega arith)) (c .before .before .before .before .plan-rows .ensures)
+returns-2 : tie.Need-returns-2
+returns-2 c =
+    let planned = c .before .before .before .before in
+    let-through (held (planned .before .before .before .before .before .before .before)) (planned .plan-good .ensures)
 
 pub plan-columns-spec : {M : Type 1} → statement M
 plan-columns-spec =
     tie.close
     (tie.spec
-    refusal-requires
-    returns
-    refusal-requires-2
-    returns-2
-    refusal-requires-3
-    returns-3
+    slice-aggregate-judge-columns
+    slice-aggregate-judge-columns-2
+    slice-aggregate-judge-columns-3
+    slice-aggregate-judge-columns-4
+    judge-columns-requires
+    enum-known-verdict
+    turn-away-requires
+    enum-told
     array-share-prefix-src
-    slice-aggregate-plan-rows
+    slice-aggregate-plan-good
     array-share-prefix-dst
-    slice-aggregate-plan-rows-2
+    slice-aggregate-plan-good-2
     array-share-prefix-len
-    slice-aggregate-plan-rows-3
+    slice-aggregate-plan-good-3
     array-share-prefix-due
-    slice-aggregate-plan-rows-4
-    plan-rows-requires
+    slice-aggregate-plan-good-4
+    plan-good-requires
+    returns
     same-length
     same-length-2
-    returns-4)
+    returns-2)

@@ -23,7 +23,7 @@ cast-time c = search needs
 mul-time : tie.Need-mul-time
 mul-time c =
     let back10 = c .before .before .before .before .before .before .before .before .before .before in
-    let s = back10 .before .before .before .before .before .before .before .before in
+    let s = back10 .before .before .before .before .before .before .before .before .before in
     let most : c .greatest .result ≤ 65535 = omega (arith, c .greatest .ok) in
     let nodes : s .args .nodes ≤ 65535 = omega (arith, s .fits .nodes) in
     omega (arith, mul-le-mul nodes most)
@@ -39,7 +39,7 @@ same-length-2 c = search needs
 
 returns : tie.Need-returns
 returns c =
-    let ran = c .before .before .before .before .before .before .before .before .before .before in
+    let ran = c .before .before .before .before .before .before .before .before .before .before .before in
     let sends = ran .before .before .before .count-sends .ensures in
     let last = c .before .before .greatest .ensures in
     run-accepted (ran .run-rows .ensures) (omega arith) _ sends _ last _ (c .sum-up .ensures)
@@ -52,7 +52,7 @@ same-length-4 c = search needs
 
 returns-2 : tie.Need-returns-2
 returns-2 c =
-    run-refused (c .before .before .before .before .before .before .before .run-rows .ensures) (omega arith)
+    run-refused (c .before .before .before .before .before .before .before .before .run-rows .ensures) (omega arith)
 
 pub plan-run-spec : {M : Type 1} → statement M
 plan-run-spec =

@@ -23,10 +23,13 @@ answered c =
       plan-all = c .before .before .before .before .plan-room .ensures;
       arrivals-all = c .before .before .before .arrivals-room .ensures;
       out = c .plan-columns .ensures;
-      src-all = search (needs, s .good);
-      dst-all = search (needs, s .good);
-      len-all = search (needs, s .good);
-      due-all = search (needs, s .good);
+      columned =
+          record {
+            src-all = search (needs, s .good);
+            dst-all = search (needs, s .good);
+            len-all = search (needs, s .good);
+            due-all = search (needs, s .good);
+          };
     }
 
 plan-room-requires : tie.Need-plan-room-requires

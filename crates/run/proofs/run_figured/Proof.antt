@@ -5,7 +5,7 @@ use Prim.Native.Nat.{_*_, _<_, _^_}
 use native.Mathlib.Omega.{arith}
 use borrow.Author.Needs.{needs}
 use Rattle.slack.specs.Slack.{traffic}
-use Rattle.run.proofs.Running.{cleared-ready, Over, inside, inside-lent, known-cell, accepted, refused}
+use Rattle.run.proofs.Running.{cleared-ready, Over, inside, inside-lent, known-cell, each-cell, accepted, refused}
 use Rattle.run.proofs.run_figured.Statement.{statement}
 use Rattle.run.proofs.run_figured.Tie as tie
 
@@ -16,9 +16,16 @@ cleared-at c = c .before .before .before .before .before .before .before
 abbrev begun-at : tie.After-walk → tie.Start
 begun-at c = cleared-at c .before .before .before .before .before .before .before .before
 
--- The place where the walk has been left, from where the area behind it is to be cleared.
+-- The places where the walk has been left and where the looks have been counted, from where the looks have been and
+-- from where the area behind the walk is to be cleared.
+abbrev walked-at : tie.After-count-looks → tie.After-walk
+walked-at c = c .before .before .before .before .before .before .before .before .before .before
+
+abbrev counted-at : tie.After-struct-known2 → tie.After-count-looks
+counted-at c = c .before .before .before .before
+
 abbrev left-at : tie.After-struct-known2 → tie.After-walk
-left-at c = c .before .before .before .before .before .before .before .before .before .before .before
+left-at c = walked-at (counted-at c)
 
 -- The walk has been left.
 left-off : (c : tie.After-walk) →
@@ -52,8 +59,12 @@ walk-requires c κs =
     let s = cleared .before .before .before .before .before .before .before .before in
     (cleared-ready (s .pre .0) (cleared .clear .ensures), s .pre .1)
 
+count-looks-requires : tie.Need-count-looks-requires
+count-looks-requires c κs =
+    each-cell (left-off (c .before .before .before .before .before .before .before .before .before))
+
 end-in-rows-requires : tie.Need-end-in-rows-requires
-end-in-rows-requires c κs = known-cell (left-off (c .before .before .before .before .before .before .before))
+end-in-rows-requires c κs = known-cell (left-off (walked-at c))
 
 cast-idle : tie.Need-cast-idle
 cast-idle c = search needs
@@ -99,7 +110,7 @@ returns c =
     let cleared = c .before .before in
     let told = cleared .before .before .before .before .before in
     accepted (left-off (left-at (cleared .before .before))) (omega arith) _ (cleared .clear2 .ensures)
-    _ (told .end-in-rows .ensures)
+    _ (told .end-in-rows .ensures) (told .before .count-looks .ensures)
 
 same-length-5 : tie.Need-same-length-5
 same-length-5 c = search needs
@@ -117,9 +128,9 @@ returns-2 : tie.Need-returns-2
 returns-2 c =
     let plan = c .before .before .before .before .before .before in
     let told = plan .before .before .before .before in
-    let walked = left-off (told .before .before .before .before .before .before .before .before) in
-    refused walked (omega arith) _ _ (plan .clear3 .ensures) (c .before .before .clear4 .ensures)
-    _ (told .end-in-rows .ensures)
+    refused (left-off (walked-at (told .before))) (omega arith)
+    _ _ (plan .clear3 .ensures) (c .before .before .clear4 .ensures)
+    _ (told .end-in-rows .ensures) (told .before .count-looks .ensures)
 
 pub run-figured-spec : {M : Type 1} → statement M
 run-figured-spec =
@@ -127,6 +138,7 @@ run-figured-spec =
     (tie.spec
     clear-requires
     walk-requires
+    count-looks-requires
     end-in-rows-requires
     cast-idle
     mul-idle

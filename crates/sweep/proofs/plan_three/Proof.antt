@@ -44,7 +44,6 @@ use denote.Lend.{lends-shr-slice}
 use denote.Signature.{plain}
 use denote.Steps.{nothing, owned, peeks, heard}
 use denote.Struct.Laws as LL
-use denote.Enum.Laws as EL
 use denote.Triple.Statement.{Contract, Triple}
 use denote.Triple.Call.{calls-at}
 use denote.Triple.Clauses.{ensured, lasts}
@@ -57,10 +56,10 @@ use denote.Exit.{yes}
 use Rattle.table.specs.declared.Row.{Row}
 use Rattle.table.proofs.Row as T
 use Rattle.table.proofs.Row.Laws as T′
-use Rattle.planner.specs.declared.Answer.{Answer}
+use Rattle.planner.specs.declared.Reply.{Reply}
 use Rattle.planner.specs.Planner.{Planned}
-use Rattle.planner.proofs.Answer as S
-use Rattle.planner.proofs.Answer.Laws as S′
+use Rattle.planner.proofs.Reply as S
+use Rattle.planner.proofs.Reply.Laws as S′
 use Rattle.planner.proofs.plan as plan
 use Rattle.planner.proofs.plan.Symbol as plan-def
 use Rattle.planner.proofs.plan.Symbol.{name as #planner·plan}
@@ -152,7 +151,7 @@ module _ {M : Type 1} (𝓤 : URA M) (H : Heap 𝓤) (A : Atoms 𝓤) (W : Given
   ys = take n xs
 
   -- what `plan` says
-  abbrev Said : Answer → List ℕ → List ℕ → Type 0
+  abbrev Said : Reply → List ℕ → List ℕ → Type 0
   Said r zs₁ zs₂ = Planned k ys xs₁ xs₂ r zs₁ zs₂
 
   abbrev Post : Val → SProp 𝓤
@@ -160,7 +159,7 @@ module _ {M : Type 1} (𝓤 : URA M) (H : Heap 𝓤) (A : Atoms 𝓤) (W : Given
       walkOf 𝓤 H A plan-three.ended stayed (plan-three.clauses 𝓤 H A mem run) .post
       (((κ₁, (κ₂, tt)), (q₁, (q₂, tt)), tt, args, at), tt)
 
-  exits : (r : Answer) (w : Val) (zs₁ zs₂ : List ℕ) → Said r zs₁ zs₂ → length zs₁ ≡ length xs₁ → length zs₂ ≡ length xs₂
+  exits : (r : Reply) (w : Val) (zs₁ zs₂ : List ℕ) → Said r zs₁ zs₂ → length zs₁ ≡ length xs₁ → length zs₂ ≡ length xs₂
       → ent 𝓤 (⋆ 𝓤 H A (tokens ∷ ‵ (finally u16 γ₁ zs₁) ∷ ‵ (finally u16 γ₂ zs₂) ∷ ‵ (Ans .own r (w ∷ [])) ∷ []))
       (Post w)
   exits r w zs₁ zs₂ d h₁ h₂ =
@@ -271,7 +270,7 @@ module _ {M : Type 1} (𝓤 : URA M) (H : Heap 𝓤) (A : Atoms 𝓤) (W : Given
         (and-then ! (loads ! (from ! (stop !)) (look ! 11 refl))
         (and-then ! (loads ! (from ! (stop !)) (look ! 7 refl))
         (and-then ! (loads ! (from ! (stop !)) (look ! 3 refl)) (no-more !))))) (λ w.
-        use1 W (later (some (λ (r : Answer). ((‵ (flft (α ∷ []) fullShare) ⊛ tokens) ⊛ ‵ (Ans .own r (w ∷ []))) ⊛ raw
+        use1 W (later (some (λ (r : Reply). ((‵ (flft (α ∷ []) fullShare) ⊛ tokens) ⊛ ‵ (Ans .own r (w ∷ []))) ⊛ raw
         (ensured 𝓤 H A plan.ended (plan.clauses 𝓤 H A mem run) ((α ∷ []), (κ₁, (κ₂, tt)))
         (plan-args α l₆ γ) tt r)))) (id⊢ 𝓤 _) $ await ! tt $ pick ! (λ r.
         split ! $ move ! (1 ∷ []) $ use1 W (some (λ (zs : Lasts). ‵
@@ -293,7 +292,7 @@ module _ {M : Type 1} (𝓤 : URA M) (H : Heap 𝓤) (A : Atoms 𝓤) (W : Given
         -- [local 6; the tokens; the result's; the arrivals' last list; true; the plan's; two more; local j at 32 - 2 j
         -- and at 31 - 2 j]
         move ! (2 ∷ []) $ peeks ! Ans (Is Ans) (shows 𝓤 H A Ans) r (w ∷ []) (λ is.
-        land ! (from ! (stop !)) (init ! 31 refl (EL.lawful S.the-type S′.the-laws 𝓤 H A W tt .typed r _ is .0)) $
+        land ! (from ! (stop !)) (init ! 31 refl (LL.lawful S.the-type S′.the-laws 𝓤 H A W .typed r _ is .0)) $
         returns ! (look ! 31 refl) $ forget ! 1 refl $ forget ! 8 refl $ forget ! 10 refl $ forget ! 12 refl
         $ forget ! 14 refl $ forget ! 16 refl $ forget ! 18 refl $ forget ! 21 refl $ forget ! 23 refl
         $ forget ! 25 refl $ forget ! 27 refl $ forget ! 29 refl $ forget ! 31 refl $

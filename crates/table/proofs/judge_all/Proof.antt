@@ -23,15 +23,18 @@ enum-known-rows c = search needs
 enum-told : tie.Need-enum-told
 enum-told c = search needs
 
+refused-requires : tie.Need-refused-requires
+refused-requires c κs = search needs
+
 returns : tie.Need-returns
 returns c =
-    let s = c .before .before .before .before .before .before .before .before .before in
+    let s = c .before .before .before .before .before .before .before .before .before .before in
     let a = s .args in
-    let judged = c .before .before .before .before .judge-rows .ensures in
-    let counted = c .before .before .before .sum in
+    let judged = c .before .before .before .before .before .judge-rows .ensures in
+    let counted = c .before .before .before .before .sum in
     let cells : cellsIn (rowsOf (a .src .now) (a .dst .now) (a .len .now) (a .due .now)) ≡ counted .result =
     its-cells (a .src .now) (a .dst .now) (a .len .now) (a .due .now) (s .pre) ∙ sym (counted .ensures) in
-    sym (all-many (a .nodes) _ (sym judged ∙ c .before .enum-told .given .1) (omega arith))
+    c .refused .ensures ∙ sym (all-many (a .nodes) _ (sym judged ∙ c .before .before .enum-told .given .1) (omega arith))
 
 returns-2 : tie.Need-returns-2
 returns-2 c =
@@ -53,4 +56,4 @@ returns-3 c =
 pub judge-all-spec : {M : Type 1} → statement M
 judge-all-spec =
     tie.close
-    (tie.spec judge-rows-requires sum-requires enum-known-rows enum-told returns returns-2 returns-3)
+    (tie.spec judge-rows-requires sum-requires enum-known-rows enum-told refused-requires returns returns-2 returns-3)

@@ -8,12 +8,12 @@ use native.Mathlib.Omega.{arith}
 use mathlib.Core.List.{List, [], _∷_}
 use borrow.Author.Tests.{lt-leb, ne-eqb, le-ltb}
 use lib.ListN.{length, getD}
 use Rattle.table.specs.declared.Row.{Row}
 use Rattle.table.specs.declared.Verdict.the-variants.{Good}
 use Rattle.table.specs.Table.{WellFormed, rowRefusal, judgeRows, cellsIn, most-cells, most-length, latest-due}
 use Rattle.table.specs.Steps.{none}
 use Rattle.table.proofs.Judging.{GoodRow, good-rows, all-few}
-use Rattle.planner.proofs.Judged.{sound, judge-each}
+use Rattle.table.proofs.Whole.{sound, judge-each}
 
 -- N is 2 to 32, there are at most 512 rows with at most 1,024 cells in all, and of each row the source and the
 -- destination lie below N, the length is 1 to 64 and the due slot 1 to 1,024 (`GoodRow`).
