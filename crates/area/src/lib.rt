@@ -1,4 +1,6 @@
 // A table as it lies in its lent area, and what is asked of it: its rows, the load of each link and the busiest link.
+#![tactic(auto)]
+
 ghost use Rattle.std.specs.Prelude.{◌≡◌, ◌≤◌, ◌<◌, min, length, get_or};
 ghost use Rattle.table.specs.Table.{most-rows};
 ghost use Rattle.table.specs.Steps.{listed};
@@ -31,7 +33,7 @@ pub const ROOM: usize = ROWS_BEGIN + ROW_WIDTH * MOST_ROWS;
 pub type Area = [u16; ROOM];
 
 // A link, and how many cells cross it.
-#[derive(Drop)]
+#[derive(Clone, Copy)]
 pub struct LinkLoad {
     pub link: Node,
     pub load: u16,

@@ -1,4 +1,6 @@
 // A catalogue of strings, line by line under fixed keys, and the verdict on it.
+#![tactic(auto)]
+
 ghost use Rattle.std.specs.Prelude.{◌≡◌, [], ◌+◌, ◌≤◌, ◌<◌, length, get_or, drop, take};
 ghost use Rattle.lists.specs.Lists.{first_place};
 ghost use Rattle.table.specs.Table.{refuse};
@@ -24,14 +26,14 @@ const NUMBERS: [u16; 20] = [
 ];
 
 // A key's bytes, and how many of the four it has.
-#[derive(Drop)]
+#[derive(Clone, Copy)]
 pub struct Key {
     pub bytes: [u8; 4],
     pub length: usize,
 }
 
 // Where a string of a text begins and ends.
-#[derive(Drop)]
+#[derive(Clone, Copy)]
 pub struct Span {
     pub from: usize,
     pub to: usize,

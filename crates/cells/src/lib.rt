@@ -1,5 +1,7 @@
 // Rows of several cells. Before a run each column of the rows is laid out over their cells; a slot that names cells is
 // told in rows, a row arrives with its last cell, and the looks are counted from what a run left.
+#![tactic(auto)]
+
 ghost use Rattle.std.specs.Prelude.{◌≡◌, ℕ, ◌-◌, ◌≤◌, ◌<◌, ◌^◌, cond, eqb, length, replicate};
 ghost use Rattle.lists.specs.Lists.{total};
 ghost use Rattle.cells.specs.Cells.{owner_of, told_by, of_last_cells};

@@ -1,5 +1,7 @@
 // Editing a table at the panel: rows added, changed and removed one by one in a lent area that also keeps the load of
 // each link.
+#![tactic(auto)]
+
 ghost use Rattle.std.specs.Prelude.{◌≡◌};
 ghost use Rattle.edit_judge.specs.Judge.{Add, Change, Remove};
 ghost use Rattle.edit.specs.Edit.{Opened, Edited, entry_of};
@@ -11,7 +13,7 @@ use lists::clear;
 use table::{Refusal, Row, Verdict};
 
 // A row that is asked for, or why there is none to show.
-#[derive(Drop)]
+#[derive(Clone, Copy)]
 pub enum Entry {
     Shown(Row),
     Refused(Refusal),

@@ -1,4 +1,6 @@
 // What is wrong with an edit of a table: the first refusal that holds, by the sizes, the row number and the row given.
+#![tactic(auto)]
+
 ghost use Rattle.std.specs.Prelude.{◌≡◌};
 ghost use Rattle.table.specs.Table.{refuse};
 ghost use Rattle.edit_judge.specs.Judge.{Add, Change, Remove, size_refusal, refusal_of, row_named};

@@ -1,4 +1,6 @@
 // An edit that nothing is wrong with, stored in the area: the loads of the ways stepped, the row put in or taken out.
+#![tactic(auto)]
+
 ghost use Rattle.std.specs.Prelude.{◌≡◌, ◌++◌, map, ◌≤◌, ◌<◌, length, drop, replicate};
 ghost use Rattle.table.specs.Table.{most-rows, row_numbers};
 ghost use Rattle.area.specs.Area.{most-links, row-width, room};

@@ -1,5 +1,7 @@
 // Answers as plain numbers, as C takes them: an exported function can't return an enum, so each answer has a flat
 // struct.
+#![tactic(auto)]
+
 ghost use Rattle.std.specs.Prelude.{◌≡◌};
 ghost use Rattle.flat.specs.Flat.{flat_of, flat_reading, flat_writing, flat_verdict, flat_entry, flat_link};
 ghost use Rattle.flat.specs.Flat.{flat_sentence, flat_reason};
@@ -14,7 +16,7 @@ use text::{Reading, Writing};
 // The planner's answer as plain numbers: `number` is 0 for an acceptance and a refusal's own otherwise. A late table
 // has `looks` too.
 #[repr(C)]
-#[derive(Drop)]
+#[derive(Clone, Copy)]
 pub struct PlanAnswer {
     pub number: u16,
     pub row: u16,
@@ -30,7 +32,7 @@ pub struct PlanAnswer {
 // What reading a text comes to, as plain numbers: `number` is 0 for a text that was read and a refusal's own otherwise,
 // and `line` is the wrong line of refusal 20.
 #[repr(C)]
-#[derive(Drop)]
+#[derive(Clone, Copy)]
 pub struct ReadAnswer {
     pub number: u16,
     pub line: u16,
@@ -41,7 +43,7 @@ pub struct ReadAnswer {
 // What writing a text comes to, as plain numbers: `number` is 0 for a text that was written and a refusal's own
 // otherwise.
 #[repr(C)]
-#[derive(Drop)]
+#[derive(Clone, Copy)]
 pub struct WriteAnswer {
     pub number: u16,
     pub length: usize,
@@ -50,7 +52,7 @@ pub struct WriteAnswer {
 // What opening a table, editing it or judging a catalogue comes to, as plain numbers: `number` is 0 where it was done
 // and a refusal's own otherwise.
 #[repr(C)]
-#[derive(Drop)]
+#[derive(Clone, Copy)]
 pub struct EditAnswer {
     pub number: u16,
     pub row: u16,
@@ -59,7 +61,7 @@ pub struct EditAnswer {
 
 // A row that was asked for, as plain numbers: `number` is 0 where it is there and a refusal's own otherwise.
 #[repr(C)]
-#[derive(Drop)]
+#[derive(Clone, Copy)]
 pub struct RowAnswer {
     pub number: u16,
     pub row: u16,
@@ -73,7 +75,7 @@ pub struct RowAnswer {
 // Why a table is late as plain numbers: `number` is 0 where the jam was looked for and a refusal's own otherwise; no
 // cells where there is no jam.
 #[repr(C)]
-#[derive(Drop)]
+#[derive(Clone, Copy)]
 pub struct ReasonAnswer {
     pub number: u16,
     pub row: u16,
@@ -85,7 +87,7 @@ pub struct ReasonAnswer {
 
 // A link and its load as plain numbers.
 #[repr(C)]
-#[derive(Drop)]
+#[derive(Clone, Copy)]
 pub struct LinkAnswer {
     pub link: u16,
     pub load: u16,
@@ -94,7 +96,7 @@ pub struct LinkAnswer {
 // What writing a sentence or a label comes to, as plain numbers: `number` is 0 where it was written and a refusal's own
 // otherwise.
 #[repr(C)]
-#[derive(Drop)]
+#[derive(Clone, Copy)]
 pub struct SentenceAnswer {
     pub number: u16,
     pub row: u16,

@@ -1,8 +1,10 @@
 // A jam: a link that more cells must cross before a slot than there are slots before it.
+#![tactic(auto)]
+
 use ring::{Node, Slot};
 
 // How many cells, which link, and before which slot; no cells where there is no jam.
-#[derive(Drop)]
+#[derive(Clone, Copy)]
 pub struct Jam {
     pub cells: u16,
     pub link: Node,

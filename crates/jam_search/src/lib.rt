@@ -1,5 +1,7 @@
 // The search for the jam of fewest cells: link by link, each cell is counted at the first slot before which it must
 // cross, and the counts are summed up slot by slot.
+#![tactic(auto)]
+
 ghost use Rattle.std.specs.Prelude.{◌≡◌, ℕ, suc, ◌<◌, length, replicate};
 ghost use Rattle.slack.specs.Slack.{traffic};
 ghost use Rattle.jam.specs.Jam.{no_jam, first_in, fewer, the_jam};

@@ -1,5 +1,7 @@
 // The few functions over lent rows: all that the other rooms do with a slice of rows, they do on the columns that are
 // loaded here.
+#![tactic(auto)]
+
 ghost use Rattle.std.specs.Prelude.{◌≡◌, ◌≤◌, ◌<◌, min, [], ◌++◌, length, get_or, drop};
 ghost use Rattle.table.specs.Steps.{none, columns, listed};
 

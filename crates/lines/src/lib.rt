@@ -1,5 +1,7 @@
 // Reads at a place of a text: a number behind a key, digit by digit, up to the mark that ends it, a line, and the lines
 // of a row.
+#![tactic(auto)]
+
 ghost use Rattle.std.specs.Prelude.{◌≡◌, false, ◌≤◌, length, drop};
 ghost use Rattle.text.specs.Text.{is_digit};
 ghost use Rattle.lines.specs.Items.{figures_in, item_seen, line_seen, row_seen};
@@ -9,14 +11,14 @@ use table::Row;
 use text::{ROW_LINES, key_at, row_by, row_key, width_of};
 
 // The digits at a place: the number that they say, and how many they are.
-#[derive(Drop)]
+#[derive(Clone, Copy)]
 pub struct Figures {
     pub value: u32,
     pub count: usize,
 }
 
 // A number behind a key at a place: its value and the place behind its mark, or that it is not exactly so.
-#[derive(Drop)]
+#[derive(Clone, Copy)]
 pub enum Item {
     Good(u16, usize),
     Wrong,
@@ -24,7 +26,7 @@ pub enum Item {
 
 // The lines of a row at a place: the row and the place behind them, or how many are right before the first that is
 // wrong.
-#[derive(Drop)]
+#[derive(Clone, Copy)]
 pub enum RowSeen {
     Whole(Row, usize),
     Broken(u16),

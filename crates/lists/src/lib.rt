@@ -1,4 +1,6 @@
 // Plain lists of numbers: cleared, summed, the largest entry and the first place of one; and the lower of two numbers.
+#![tactic(auto)]
+
 ghost use Rattle.std.specs.Prelude.{◌≡◌, ℕ, ◌≤◌, min, length, replicate};
 ghost use Rattle.lists.specs.Lists.{total, largest, first_place};
 

@@ -1,4 +1,6 @@
 // How many looks planning a table may take at most: said in advance, from the table alone.
+#![tactic(auto)]
+
 ghost use Rattle.std.specs.Prelude.{◌≡◌, suc, ◌*◌, ◌≤◌, length};
 ghost use Rattle.lists.specs.Lists.{total, largest};
 ghost use Rattle.table.specs.Steps.{listed};

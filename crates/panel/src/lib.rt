@@ -1,4 +1,6 @@
 // The panel's way in: each function is thin over a proved entry point, and is called from C or Rust by its plain name.
+#![tactic(auto)]
+
 ghost use Rattle.std.specs.Prelude.{◌≡◌, get_or};
 ghost use Rattle.table.specs.Steps.{listed};
 ghost use Rattle.area.specs.Area.{count_in, nodes_in, rows_in, loads_in, busiest_in};
@@ -23,7 +25,7 @@ use ring::Node;
 use table::{Columns, Row};
 
 // What reading a text comes to in plain numbers, and the rows that it fills by columns.
-#[derive(Drop)]
+#[derive(Clone, Copy)]
 struct FlatParsed {
     reading: ReadAnswer,
     rows: usize,

@@ -1,4 +1,6 @@
 // Plans a table read from standard input.
+#![tactic(auto)]
+
 ghost use Rattle.std.specs.Prelude.{length, ◌≡◌};
 ghost use Rattle.report.specs.Report.{input_most, output_most};
 

@@ -1,4 +1,6 @@
 // The planner: judges a table, plans its run in the lent areas, and answers with the summary or a refusal.
+#![tactic(auto)]
+
 ghost use Rattle.std.specs.Prelude.{◌≡◌, length, ◌≤◌};
 ghost use Rattle.lists.specs.Lists.{total};
 ghost use Rattle.table.specs.Table.{judge_all, refuse};
@@ -15,7 +17,7 @@ use rows::run_rows;
 use table::{Columns, Refusal, Row, Verdict, judge_columns, measure};
 
 // What an accepted table comes to.
-#[derive(Drop)]
+#[derive(Clone, Copy)]
 pub struct Summary {
     pub last: Slot,
     pub sends: u32,
@@ -25,14 +27,14 @@ pub struct Summary {
 }
 
 // The planner's answer.
-#[derive(Drop)]
+#[derive(Clone, Copy)]
 pub enum Answer {
     Accepted(Summary),
     Refused(Refusal),
 }
 
 // What planning reports: the answer, and how many looks it took.
-#[derive(Drop)]
+#[derive(Clone, Copy)]
 pub struct Reply {
     pub answer: Answer,
     pub looks: u32,

@@ -1,4 +1,6 @@
 // Reads the text of a table: line by line into columns, and from columns into the lent rows.
+#![tactic(auto)]
+
 ghost use Rattle.std.specs.Prelude.{◌≡◌, ℕ, ◌≤◌, length, drop, replicate};
 ghost use Rattle.table.specs.Table.{refuse};
 ghost use Rattle.text.specs.Text.{TextParsed, filled, TextTaken};

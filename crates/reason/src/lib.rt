@@ -1,5 +1,7 @@
 // Why a table is late: the jam of fewest cells, and how many of each row's cells are in it. Said from the table alone,
 // without a run.
+#![tactic(auto)]
+
 ghost use Rattle.std.specs.Prelude.{◌≡◌, cond, ◌≤◌, ◌<◌, length};
 ghost use Rattle.slack.specs.Slack.{traffic};
 ghost use Rattle.jam.specs.Jam.{must_cross};
@@ -20,7 +22,7 @@ use ring::{Node, Slot, links_between};
 use table::{Columns, Refusal, Row, Verdict, judge_columns, measure};
 
 // Why a table is late, if it is: a jam, or none; or why it was not looked for.
-#[derive(Drop)]
+#[derive(Clone, Copy)]
 pub enum Reason {
     Jammed(Jam),
     Clear,

@@ -1,4 +1,6 @@
 // Prints what the plan program answers: it reads a text, plans the table, and writes lines of key=value.
+#![tactic(auto)]
+
 ghost use Rattle.std.specs.Prelude.{◌≡◌, cond, ◌+◌, ◌*◌, ◌≤◌, ◌<◌, ltb, length};
 ghost use Rattle.table.specs.Steps.{listed};
 ghost use Rattle.text.specs.Text.{line_feed};

@@ -1,17 +1,19 @@
 // The ring: nodes, slots and counts of links as three kinds, and how far and where a row is.
+#![tactic(auto)]
+
 ghost use Rattle.std.specs.Prelude.{◌≡◌, ◌+◌, ◌-◌, ◌≤◌, ◌<◌};
 ghost use Rattle.ring.specs.Ring.{distance, standing};
 
 // A node's number.
-#[derive(Drop)]
+#[derive(Clone, Copy)]
 pub struct Node(pub u16);
 
 // A slot's number, and the instant at which that slot begins.
-#[derive(Drop)]
+#[derive(Clone, Copy)]
 pub struct Slot(pub u16);
 
 // A count of links.
-#[derive(Drop)]
+#[derive(Clone, Copy)]
 pub struct Links(pub u16);
 
 // The links from one node on to another, a full turn where the two are one.

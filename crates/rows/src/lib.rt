@@ -1,5 +1,7 @@
 // A run of rows of several cells: their columns are laid out over the cells, the cells are run, and each row arrives
 // with its last cell.
+#![tactic(auto)]
+
 ghost use Rattle.std.specs.Prelude.{◌≡◌, length};
 ghost use Rattle.lists.specs.Lists.{total};
 ghost use Rattle.cells.specs.Rows.{freight};

@@ -1,4 +1,6 @@
 // A whole run of cells: instant by instant, until a cell is late or none is under way. What it gives is told in rows.
+#![tactic(auto)]
+
 ghost use Rattle.std.specs.Prelude.{◌≡◌, ◌≤◌, ◌<◌, ◌^◌, ℤ, pos, length, replicate};
 ghost use Rattle.slack.specs.Slack.{traffic};
 ghost use Rattle.slack.specs.Figure.{figures_of};
@@ -13,7 +15,7 @@ use slack::{Stop, is_late};
 use slot::{any_under_way, plan_slot, write_figures};
 
 // How a run ended: where and with which row, and how many looks it took.
-#[derive(Drop)]
+#[derive(Clone, Copy)]
 pub struct Ending {
     pub stop: Stop,
     pub looks: u32,

@@ -1,4 +1,6 @@
 // Reads a catalogue from standard input, plans three small tables, and prints the sentence of each answer.
+#![tactic(auto)]
+
 ghost use Rattle.std.specs.Prelude.{length, ◌≡◌};
 
 use libc::{STDIN_FILENO, STDOUT_FILENO};

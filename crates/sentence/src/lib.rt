@@ -1,4 +1,6 @@
 // Says an answer of the planner or the name of a field in the language of a catalogue.
+#![tactic(auto)]
+
 ghost use Rattle.std.specs.Prelude.{◌≡◌, cond, eqb};
 ghost use Rattle.catalogue.specs.Catalogue.{verdict_on};
 ghost use Rattle.sentence.specs.Sentence.{spoken, named, SentencePut, LabelPut, AnswerPut};

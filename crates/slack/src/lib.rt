@@ -1,4 +1,6 @@
 // The rule of least slack: what it says stands in specs/; in code, the slack of one row, and where a run ended.
+#![tactic(auto)]
+
 ghost use Rattle.std.specs.Prelude.{◌≡◌, ◌&&◌, ltb, pos};
 ghost use Rattle.std.specs.Int.Signed.{lt_z};
 ghost use Rattle.slack.specs.Slack.{slack_of};
@@ -6,7 +8,7 @@ ghost use Rattle.slack.specs.Slack.{slack_of};
 use ring::{Links, Slot};
 
 // Where a run ended: the late row's number, 0 where all rows are delivered, and the instant.
-#[derive(Drop)]
+#[derive(Clone, Copy)]
 pub struct Stop {
     pub row: u16,
     pub slot: Slot,

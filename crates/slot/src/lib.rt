@@ -1,4 +1,6 @@
 // One slot of the rule: the figure of each row, what each link carries, whose figure is corrected, and who moves.
+#![tactic(auto)]
+
 ghost use Rattle.std.specs.Prelude.{◌≡◌, suc, ◌<◌, ◌^◌, length};
 ghost use Rattle.slack.specs.Slack.{traffic, OnRing, any_under_way};
 ghost use Rattle.slack.specs.Figure.{turn_of, figure_of, figures_of};

@@ -1,4 +1,6 @@
 // Runs document 01's sweep table and some edits through the entry points, and prints what comes back.
+#![tactic(auto)]
+
 ghost use Rattle.std.specs.Prelude.{◌≡◌, ℕ, ◌≤◌, ◌<◌, length, take, replicate};
 ghost use Rattle.planner.specs.Planner.{Planned};
 

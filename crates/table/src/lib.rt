@@ -1,4 +1,6 @@
 // The table: its rows and their columns, and what is wrong with them.
+#![tactic(auto)]
+
 ghost use Rattle.std.specs.Prelude.{◌≡◌, length, get_or};
 ghost use Rattle.lists.specs.Lists.{build};
 ghost use Rattle.ring.specs.Ring.{distance};
@@ -10,7 +12,7 @@ use ring::{Node, Slot, links_between};
 
 // One message: where it starts, where it goes, how many cells it has, and the instant by which they must be there.
 #[repr(C)]
-#[derive(Drop)]
+#[derive(Clone, Copy)]
 pub struct Row {
     pub src: u16,
     pub dst: u16,
@@ -19,7 +21,7 @@ pub struct Row {
 }
 
 // The rows by columns: plain numbers, which all further work is done on.
-#[derive(Drop)]
+#[derive(Clone, Copy)]
 pub struct Columns {
     pub src: [u16; 512],
     pub dst: [u16; 512],
@@ -28,7 +30,7 @@ pub struct Columns {
 }
 
 // Why a table is turned away: the number of document 01, the row it is about and the slot.
-#[derive(Drop)]
+#[derive(Clone, Copy)]
 pub struct Refusal {
     pub number: u16,
     pub row: u16,
@@ -36,7 +38,7 @@ pub struct Refusal {
 }
 
 // What judging a table comes to.
-#[derive(Drop)]
+#[derive(Clone, Copy)]
 pub enum Verdict {
     Good,
     Refused(Refusal),

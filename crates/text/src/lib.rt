@@ -1,5 +1,7 @@
 // The table as text: what reading and writing come to, the lines of a row by their keys, and bytes written at a place
 // of an area.
+#![tactic(auto)]
+
 ghost use Rattle.std.specs.Prelude.{◌≡◌, [], ◌+◌, ◌%◌, ◌≤◌, ◌<◌, length, get_or, drop};
 ghost use Rattle.table.specs.Table.{refuse, row_numbers, row_by};
 ghost use Rattle.text.specs.Text.{starts, width, numeral, item, line, digit_zero, row-keys};
@@ -9,21 +11,21 @@ use ring::Slot;
 use table::{Columns, Refusal, Row};
 
 // The head of a table that was read: the number of nodes and the number of rows.
-#[derive(Drop)]
+#[derive(Clone, Copy)]
 pub struct Header {
     pub nodes: u16,
     pub rows: u16,
 }
 
 // What reading a text comes to.
-#[derive(Drop)]
+#[derive(Clone, Copy)]
 pub enum Reading {
     Read(Header),
     Refused(Refusal),
 }
 
 // A text that was read: what the reading comes to, the number of its rows, and the rows by columns.
-#[derive(Drop)]
+#[derive(Clone, Copy)]
 pub struct Parsed {
     pub reading: Reading,
     pub rows: usize,
@@ -31,7 +33,7 @@ pub struct Parsed {
 }
 
 // What writing a text comes to: its length, or why nothing was written.
-#[derive(Drop)]
+#[derive(Clone, Copy)]
 pub enum Writing {
     Written(usize),
     Refused(Refusal),

@@ -1,4 +1,6 @@
 // Writes the text of a table: it counts the bytes first, and then writes line by line.
+#![tactic(auto)]
+
 ghost use Rattle.std.specs.Prelude.{◌≡◌, ◌+◌, ◌≤◌, length};
 ghost use Rattle.table.specs.Steps.{listed};
 ghost use Rattle.text.specs.Text.{line, row_text, rows_text, writing_of, area_after, TextPut};

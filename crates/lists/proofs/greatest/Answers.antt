@@ -1,0 +1,23 @@
+-- `lists::greatest` meets its contract: after i turns it holds the largest of the first i entries.
+-- Assumes nothing.
+use mathlib.Core.Path.{◌≡◌, ◌∙◌, ap}
+use mathlib.Core.Logic.{⊎_elim}
+use Prim.Native.Nat.{◌≤◌, ◌+◌, ◌-◌, max}
+use native.Mathlib.Omega.{arith}
+use lib.ListN.{length, take, get_or}
+use lib.Seq.{take_all}
+use Rattle.lists.specs.Lists.{largest}
+use Rattle.lists.proofs.Figures.{largest-more}
+use Rattle.lists.proofs.greatest.Goals as goal
+
+pub loop-i-init : goal.loop-i-init
+unfolding largest
+loop-i-init c = search rules
+
+pub loop-i-preserved : goal.loop-i-preserved
+loop-i-preserved c =
+    let part = c.args.part.now in
+    let i = c.loop-i.i in
+    let more : largest (take (i + 1) part) ≡ max (largest (take i part)) (get_or part i 0) =
+    largest-more part i (omega arith) in
+    (omega arith, ⊎_elim (λ w. omega arith) (λ w. omega arith) c.if-most-x.branch)
