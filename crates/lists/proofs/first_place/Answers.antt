@@ -1,12 +1,9 @@
 -- `lists::first_place` meets its contract: as long as the entries passed are others, the place is that in the rest,
 -- counted on.
 -- Assumes nothing.
-use mathlib.Core.Path.{sym, ◌≡◌, ◌∙◌}
-use Prim.Native.Nat.{◌+◌, ◌≤◌, ◌-◌}
+use mathlib.Core.Path.{sym, ◌∙◌}
 use native.Mathlib.Omega.{arith}
-use lib.ListN.{length, drop}
 use Rattle.lists.proofs.FirstPlace.{place_here, place_next, place_end}
-use Rattle.lists.specs.Lists.{first_place}
 use Rattle.lists.proofs.first_place.Goals as goal
 
 pub returns-then-x-part : goal.returns-then-x-part

@@ -1,11 +1,9 @@
 -- `lists::first_place` meets its contract: as long as the entries passed are others, the place is that in the rest,
 -- counted on.
 -- Assumes nothing.
-use mathlib.Core.Path.{sym, ◌≡◌, ◌∙◌}
+use mathlib.Core.Path.{◌≡◌}
 use Prim.Native.Nat.{◌+◌, ◌≤◌, ◌-◌}
-use native.Mathlib.Omega.{arith}
 use lib.ListN.{length, drop}
-use Rattle.lists.proofs.FirstPlace.{place_here, place_next, place_end}
 use Rattle.lists.specs.Lists.{first_place}
 use Rattle.lists.proofs.first_place.Given as goal
 

@@ -1,14 +1,14 @@
 -- `lists::greatest` meets its contract: after i turns it holds the largest of the first i entries.
 -- Assumes nothing.
-use mathlib.Core.Path.{◌≡◌, ◌∙◌, ap}
-use mathlib.Core.Logic.{⊎_elim}
-use Prim.Native.Nat.{◌≤◌, ◌+◌, ◌-◌, max}
+use mathlib.Core.Path.{◌≡◌}
+use borrow.Author.Rules.{rules}
+use Prim.Native.Nat.{◌+◌, max}
 use native.Mathlib.Omega.{arith}
-use lib.ListN.{length, take, get_or}
-use lib.Seq.{take_all}
+use lib.ListN.{take, get_or}
 use Rattle.lists.specs.Lists.{largest}
 use Rattle.lists.proofs.Figures.{largest-more}
 use Rattle.lists.proofs.greatest.Goals as goal
+use Rattle.lists.proofs.greatest.Goals.{then-most-x, else-most-x}
 
 pub loop-i-init : goal.loop-i-init
 unfolding largest
@@ -20,4 +20,4 @@ loop-i-preserved c =
     let i = c.loop-i.i in
     let more : largest (take (i + 1) part) ≡ max (largest (take i part)) (get_or part i 0) =
     largest-more part i (omega arith) in
-    (omega arith, ⊎_elim (λ w. omega arith) (λ w. omega arith) c.if-most-x.branch)
+    (omega arith, elim c.if-most-x.branch [ then-most-x w ↦ omega arith | else-most-x w ↦ omega arith ])

@@ -1,12 +1,12 @@
 -- `lists::sum` meets its contract: after i turns it holds the sum of the first i entries, each below 65,536.
 -- Assumes nothing.
-use mathlib.Core.Path.{◌≡◌, ◌∙◌, ap}
-use Prim.Native.Nat.{◌≤◌, ◌+◌, ◌-◌, ◌*◌}
+use mathlib.Core.Path.{◌≡◌}
+use Prim.Native.Nat.{◌+◌}
 use native.Mathlib.Omega.{arith}
-use lib.ListN.{length, take, get_or}
-use lib.Seq.{take_all}
+use lib.ListN.{take, get_or}
 use Rattle.lists.specs.Lists.{total}
 use Rattle.lists.proofs.Figures.{total-more}
+use borrow.Author.Rules.{rules}
 use Rattle.lists.proofs.sum.Goals as goal
 
 pub loop-i-init : goal.loop-i-init

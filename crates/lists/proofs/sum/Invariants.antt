@@ -1,12 +1,9 @@
 -- `lists::sum` meets its contract: after i turns it holds the sum of the first i entries, each below 65,536.
 -- Assumes nothing.
-use mathlib.Core.Path.{◌≡◌, ◌∙◌, ap}
-use Prim.Native.Nat.{◌≤◌, ◌+◌, ◌-◌, ◌*◌}
-use native.Mathlib.Omega.{arith}
-use lib.ListN.{length, take, get_or}
-use lib.Seq.{take_all}
+use mathlib.Core.Path.{◌≡◌}
+use Prim.Native.Nat.{◌≤◌, ◌-◌, ◌*◌}
+use lib.ListN.{length, take}
 use Rattle.lists.specs.Lists.{total}
-use Rattle.lists.proofs.Figures.{total-more}
 use Rattle.lists.proofs.sum.Given as goal
 
 abbrev pub invariant-loop-i : goal.invariant-loop-i
