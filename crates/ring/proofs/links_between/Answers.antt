@@ -1,5 +1,3 @@
-
-use borrow.Author.Rules.{rules}
 -- `ring::links_between` meets its contract: each branch is one of the two laws of a distance.
 -- Assumes nothing.
 use native.Mathlib.Omega.{arith}

@@ -1,5 +1,3 @@
-
-use borrow.Author.Rules.{rules}
 -- `ring::node_at` meets its contract: each branch is one of the two laws of the turn past node 0.
 -- Assumes nothing.
 use native.Mathlib.Omega.{arith}

@@ -1,8 +1,7 @@
 -- `slack::slack` meets its contract: three numbers of 16 bits, worked out in 32 signed bits.
 -- Assumes nothing.
-use borrow.Author.Rules.{rules}
 use native.Mathlib.Omega.{arith}
-use Rattle.slack.proofs.Bits.{first_fits, second_fits, is_slack}
+use Rattle.slack.proofs.Bits.{is_slack}
 use Rattle.slack.proofs.slack.Goals as goal
 
 pub returns : goal.returns

@@ -1,12 +1,11 @@
 -- `table::judge_rows` meets its contract: as long as the rows passed are good, the whole judgement is that of the rest.
 -- Assumes nothing.
-use borrow.Author.Rules.{rules}
-use mathlib.Core.Path.{◌≡◌, refl, ◌∙◌, ap, sym}
-use Prim.Native.Nat.{◌+◌, ◌-◌, ◌≤◌}
+use mathlib.Core.Path.{◌≡◌, ◌∙◌, ap, sym}
+use Prim.Native.Nat.{◌+◌}
 use native.Mathlib.Omega.{arith}
-use lib.ListN.{length, get_or, drop}
+use lib.ListN.{get_or}
 use Rattle.table.specs.declared.Verdict.TheVariants.{Refused}
-use Rattle.table.specs.Table.{refuse, row_refusal, judge_rows}
+use Rattle.table.specs.Table.{refuse, row_refusal}
 use Rattle.table.specs.Steps.{none, rows_of}
 use Rattle.table.proofs.Judging.{judge_here, judge_next, judge_end, rows_long, rows_at}
 use Rattle.table.proofs.judge_rows.Goals as goal

@@ -1,14 +1,10 @@
 -- `table::judge_rows` meets its contract: as long as the rows passed are good, the whole judgement is that of the rest.
 -- Assumes nothing.
-use borrow.Author.Rules.{rules}
-use mathlib.Core.Path.{◌≡◌, refl, ◌∙◌, ap, sym}
-use Prim.Native.Nat.{◌+◌, ◌-◌, ◌≤◌}
-use native.Mathlib.Omega.{arith}
-use lib.ListN.{length, get_or, drop}
-use Rattle.table.specs.declared.Verdict.TheVariants.{Refused}
-use Rattle.table.specs.Table.{refuse, row_refusal, judge_rows}
-use Rattle.table.specs.Steps.{none, rows_of}
-use Rattle.table.proofs.Judging.{judge_here, judge_next, judge_end, rows_long, rows_at}
+use mathlib.Core.Path.{◌≡◌}
+use Prim.Native.Nat.{◌-◌, ◌≤◌}
+use lib.ListN.{length, drop}
+use Rattle.table.specs.Table.{judge_rows}
+use Rattle.table.specs.Steps.{rows_of}
 use Rattle.table.proofs.judge_rows.Given as goal
 
 abbrev pub invariant-loop-i : goal.invariant-loop-i

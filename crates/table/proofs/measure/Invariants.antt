@@ -1,12 +1,9 @@
 -- `table::measure` meets its contract: after i turns the first i distances are written.
 -- Assumes nothing.
-use borrow.Author.Rules.{rules}
-use mathlib.Core.Path.{◌≡◌, refl, ◌∙◌, ap}
-use Prim.Native.Nat.{ℕ, ◌-◌, ◌≤◌, ◌<◌}
-use native.Mathlib.Omega.{arith}
-use lib.ListN.{length, get_or, set, length-set}
-use Rattle.lists.specs.Lists.{build}
-use Rattle.lists.proofs.Filling.{filled, filled_more, filled_all}
+use mathlib.Core.Path.{◌≡◌}
+use Prim.Native.Nat.{◌-◌, ◌≤◌}
+use lib.ListN.{length, get_or}
+use Rattle.lists.proofs.Filling.{filled}
 use Rattle.ring.specs.Ring.{distance}
 use Rattle.table.proofs.measure.Given as goal
 

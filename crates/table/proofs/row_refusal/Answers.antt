@@ -1,6 +1,5 @@
 -- `table::row_refusal` meets its contract: each return is the first test of the definition that holds.
 -- Assumes nothing.
-use borrow.Author.Rules.{rules}
 use borrow.Author.Tests.{le-leb, lt-leb, eq-eqb, ne_eqb, lt-ltb, le-ltb}
 use Rattle.table.specs.Table.{row_refusal}
 use Rattle.table.proofs.row_refusal.Goals as goal
