@@ -3,12 +3,8 @@
 use mathlib.Core.Path.{refl}
 use Rattle.table.specs.Table.{destinations, lengths, dues}
 use Rattle.table.specs.Steps.{columns, column, sources}
-use Rattle.lent.proofs.blank.Statement.{statement}
-use Rattle.lent.proofs.blank.Tie as tie
+use Rattle.lent.proofs.blank.Goals as goal
 
-returns : tie.Need-returns
+pub returns : goal.returns
 unfolding columns column sources destinations lengths dues
 returns c = refl
-
-pub blank-spec : {M : Type 1} → statement M
-blank-spec = tie.close (tie.spec returns)
