@@ -4,7 +4,7 @@
 ghost use Rattle.std.specs.Prelude.{length, ◌≡◌};
 ghost use Rattle.report.specs.Report.{input_most, output_most};
 
-use libc::{STDIN_FILENO, STDOUT_FILENO};
+use std::io;
 
 // Room for the text: a longer input is read no further, since the rest changes no answer.
 fn text_room() -> [u8; 24576]
@@ -21,10 +21,10 @@ fn output_room() -> [u8; 212992]
 }
 
 // Reads a table from standard input, plans it, and prints the answer.
-fn main() {
+fn main(rt: HostRuntime) -> io::Result<()> {
     let mut text = text_room();
-    let count = io::read_full(STDIN_FILENO, &mut text);
+    let count = intake::fill(&mut rt.stdin(), &mut text)?;
     let mut output = output_room();
     let length = report::respond(&text[..count], &mut output);
-    io::write_all(STDOUT_FILENO, &output[..length]);
+    rt.write_all(&output[..length])
 }
