@@ -3,10 +3,10 @@
 
 ghost use Rattle.std.specs.Prelude.{length, ◌≡◌};
 
-use libc::{STDIN_FILENO, STDOUT_FILENO};
 use lists::zeros;
 use planner::{Answer, plan_columns};
 use sentence::sentence_of;
+use std::io;
 use table::{Columns, Row};
 use text::Writing;
 
@@ -18,18 +18,14 @@ fn catalogue_room() -> [u8; 4096]
 }
 
 // Prints the sentence of an answer, or the number of what forbids it.
-fn say(catalogue: &[u8], answer: Answer) {
+fn say(rt: &impl Print, catalogue: &[u8], answer: Answer) -> io::Result<()> {
     let mut area = [0u8; 128];
     let writing = sentence_of(catalogue, answer, &mut area);
     match writing {
-        Writing::Written(length) => {
-            io::write_all(STDOUT_FILENO, &area[..length]);
-        }
-        Writing::Refused(r) => {
-            io::print_decimal(STDOUT_FILENO, r.number as u64);
-        }
+        Writing::Written(length) => rt.write_all(&area[..length])?,
+        Writing::Refused(r) => rt.print(r.number)?,
     }
-    io::write_all(STDOUT_FILENO, b"\n");
+    rt.write_all(b"\n")
 }
 
 // The columns of two rows.
@@ -50,12 +46,12 @@ fn two_rows(a: Row, b: Row) -> Columns {
 }
 
 // Plans two rows on a ring of four nodes, and says what came of it.
-fn say_plan(catalogue: &[u8], a: Row, b: Row) {
+fn say_plan(rt: &impl Print, catalogue: &[u8], a: Row, b: Row) -> io::Result<()> {
     let mut plan = [0u16; 16];
     let mut arrivals = [0u16; 2];
     let reply = plan_columns(4, 2, two_rows(a, b), &mut plan, &mut arrivals);
     let answer = reply.answer;
-    say(catalogue, answer);
+    say(rt, catalogue, answer)
 }
 
 // One row of a case, of one cell.
@@ -70,11 +66,11 @@ fn row(src: u16, dst: u16, due: u16) -> Row {
 
 // Says case B of document 01's sweep table, which is accepted, case D, which is late, and a row to a node that the
 // ring does not have.
-fn main() {
+fn main(rt: HostRuntime) -> io::Result<()> {
     let mut text = catalogue_room();
-    let count = io::read_full(STDIN_FILENO, &mut text);
+    let count = intake::fill(&mut rt.stdin(), &mut text)?;
     let catalogue = &text[..count];
-    say_plan(catalogue, row(0, 1, 2), row(0, 3, 3));
-    say_plan(catalogue, row(0, 1, 1), row(0, 1, 1));
-    say_plan(catalogue, row(0, 1, 2), row(2, 4, 1));
+    say_plan(&rt, catalogue, row(0, 1, 2), row(0, 3, 3))?;
+    say_plan(&rt, catalogue, row(0, 1, 1), row(0, 1, 1))?;
+    say_plan(&rt, catalogue, row(0, 1, 2), row(2, 4, 1))
 }

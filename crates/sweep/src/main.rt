@@ -7,14 +7,12 @@ ghost use Rattle.planner.specs.Planner.{Planned};
 use area::{Area, ROOM};
 use planner::{Answer, Reply, Summary, plan, plan_columns};
 use ring::Node;
+use std::io;
 use table::{Row, Verdict};
 
 // What the areas hold before a case, so that the entries that it touched can be told: no row's number and no instant is
 // as large.
 const UNTOUCHED: u16 = 65535;
-
-// Standard output.
-const OUT: i32 = 1;
 
 // One row of a case, of one cell.
 fn row(src: u16, dst: u16, due: u16) -> Row {
@@ -98,40 +96,41 @@ fn busy(plan: &[u16]) -> usize {
 }
 
 // Writes one line, a key and a number.
-fn print_line(key: &[u8], number: u64) {
-    io::write_all(OUT, key);
-    io::write_all(OUT, b"=");
-    io::print_decimal(OUT, number);
-    io::write_all(OUT, b"\n");
+fn print_line(rt: &impl Print, key: &[u8], number: u64) -> io::Result<()> {
+    rt.write_all(key)?;
+    rt.write_all(b"=")?;
+    rt.print(number)?;
+    rt.write_all(b"\n")
 }
 
 // Writes the three lines that every answer has.
-fn print_answer(number: u16, row: u16, slot: u16) {
-    print_line(b"answer", number as u64);
-    print_line(b"row", row as u64);
-    print_line(b"slot", slot as u64);
+fn print_answer(rt: &impl Print, number: u16, row: u16, slot: u16) -> io::Result<()> {
+    print_line(rt, b"answer", number as u64)?;
+    print_line(rt, b"row", row as u64)?;
+    print_line(rt, b"slot", slot as u64)
 }
 
 // Writes how many entries of the two areas a case touched.
-fn print_touched(plan: &[u16], arrivals: &[u16]) {
-    print_line(b"entries", plan.len() as u64);
-    print_line(b"instants", arrivals.len() as u64);
+fn print_touched(rt: &impl Print, plan: &[u16], arrivals: &[u16]) -> io::Result<()> {
+    print_line(rt, b"entries", plan.len() as u64)?;
+    print_line(rt, b"instants", arrivals.len() as u64)
 }
 
 // Writes one line, a key and the bits of a float, which say it exactly; nothing where it is below 0 or no number.
-fn print_bits(key: &[u8], x: f64) {
+fn print_bits(rt: &impl Print, key: &[u8], x: f64) -> io::Result<()> {
     if 0.0 <= x {
-        print_line(key, f64::to_bits(x));
+        print_line(rt, key, f64::to_bits(x))?;
     }
+    Ok(())
 }
 
 // Writes the figures of an accepted table.
-fn print_summary(s: Summary) {
-    print_line(b"last", s.last.0 as u64);
-    print_line(b"sends", s.sends as u64);
-    print_line(b"sum", s.sum as u64);
-    print_bits(b"mean_bits", s.mean);
-    print_bits(b"share_bits", s.share);
+fn print_summary(rt: &impl Print, s: Summary) -> io::Result<()> {
+    print_line(rt, b"last", s.last.0 as u64)?;
+    print_line(rt, b"sends", s.sends as u64)?;
+    print_line(rt, b"sum", s.sum as u64)?;
+    print_bits(rt, b"mean_bits", s.mean)?;
+    print_bits(rt, b"share_bits", s.share)
 }
 
 // A number of 16 bits as one of 64.
@@ -140,123 +139,144 @@ fn wide(x: u16) -> u64 {
 }
 
 // Writes one line for each row's delivery instant.
-fn print_arrivals(arrivals: &[u16]) {
+fn print_arrivals(rt: &impl Print, arrivals: &[u16]) -> io::Result<()> {
     let mut i = 0;
     while i < arrivals.len() {
-        print_line(b"arrive", wide(arrivals[i]));
+        print_line(rt, b"arrive", wide(arrivals[i]))?;
         i += 1;
     }
+    Ok(())
 }
 
 // Writes one entry of a slot, with what stands before it in the line.
-fn print_entry(link: usize, row: u16) {
+fn print_entry(rt: &impl Print, link: usize, row: u16) -> io::Result<()> {
     if link == 0 {
-        io::write_all(OUT, b"send=");
+        rt.write_all(b"send=")?;
     } else {
-        io::write_all(OUT, b",");
+        rt.write_all(b",")?;
     }
-    io::print_decimal(OUT, row as u64);
+    rt.print(row)
 }
 
 // Writes one line with what the links carry in a slot.
-fn print_slot(slot: &[u16]) {
+fn print_slot(rt: &impl Print, slot: &[u16]) -> io::Result<()> {
     let mut link = 0;
     while link < slot.len() {
-        print_entry(link, slot[link]);
+        print_entry(rt, link, slot[link])?;
         link += 1;
     }
-    io::write_all(OUT, b"\n");
+    rt.write_all(b"\n")
 }
 
 // Writes one line for each slot of a plan.
-fn print_slots(nodes: usize, plan: &[u16])
+fn print_slots(rt: &impl Print, nodes: usize, plan: &[u16]) -> io::Result<()>
     requires { 0 < nodes }
 {
     let mut at = 0;
     while nodes <= plan.len() - at {
         let next = at + nodes;
-        print_slot(&plan[at..next]);
+        print_slot(rt, &plan[at..next])?;
         at = next;
     }
+    Ok(())
 }
 
 // Writes the slots of a plan: all of a short one, the first and the last of a long one.
-fn print_plan(nodes: usize, plan: &[u16])
+fn print_plan(rt: &impl Print, nodes: usize, plan: &[u16]) -> io::Result<()>
     requires { 0 < nodes }
 {
     let entries = plan.len();
     if entries <= 32 {
-        print_slots(nodes, plan);
+        print_slots(rt, nodes, plan)?;
     } else if nodes <= entries {
-        print_slot(&plan[..nodes]);
+        print_slot(rt, &plan[..nodes])?;
         let last = entries - nodes;
-        print_slot(&plan[last..]);
+        print_slot(rt, &plan[last..])?;
     }
+    Ok(())
 }
 
 // Writes what a case came to: the looks, the answer, the entries that it touched, and where the table was accepted its
 // figures, arrivals and plan.
-fn print_outcome(nodes: usize, reply: Reply, plan: &[u16], arrivals: &[u16])
+fn print_outcome(
+    rt: &impl Print,
+    nodes: usize,
+    reply: Reply,
+    plan: &[u16],
+    arrivals: &[u16],
+) -> io::Result<()>
     requires { 0 < nodes }
 {
-    print_line(b"looks", reply.looks as u64);
+    print_line(rt, b"looks", reply.looks as u64)?;
     let answer = reply.answer;
     match answer {
         Answer::Refused(r) => {
-            print_answer(r.number, r.row, r.slot.0);
-            print_touched(plan, arrivals);
+            print_answer(rt, r.number, r.row, r.slot.0)?;
+            print_touched(rt, plan, arrivals)
         }
         Answer::Accepted(s) => {
-            print_answer(0, 0, 0);
-            print_touched(plan, arrivals);
-            print_summary(s);
-            print_line(b"busy", busy(plan) as u64);
-            print_arrivals(arrivals);
-            print_plan(nodes, plan);
+            print_answer(rt, 0, 0, 0)?;
+            print_touched(rt, plan, arrivals)?;
+            print_summary(rt, s)?;
+            print_line(rt, b"busy", busy(plan) as u64)?;
+            print_arrivals(rt, arrivals)?;
+            print_plan(rt, nodes, plan)
         }
     }
 }
 
 // Writes what planning in fresh areas came to, with just the entries that it touched.
-fn print_areas(nodes: usize, reply: Reply, plan: &[u16], arrivals: &[u16])
+fn print_areas(
+    rt: &impl Print,
+    nodes: usize,
+    reply: Reply,
+    plan: &[u16],
+    arrivals: &[u16],
+) -> io::Result<()>
     requires { 0 < nodes }
 {
     let entries = touched(plan);
     let instants = touched(arrivals);
-    print_outcome(nodes, reply, &plan[..entries], &arrivals[..instants]);
+    print_outcome(rt, nodes, reply, &plan[..entries], &arrivals[..instants])
 }
 
 // Plans one case in fresh areas and writes what it came to.
-fn run_case(letter: &[u8], nodes: u16, rows: [Row; 3], count: usize)
+fn run_case(
+    rt: &impl Print,
+    letter: &[u8],
+    nodes: u16,
+    rows: [Row; 3],
+    count: usize,
+) -> io::Result<()>
     requires { (0 < nodes) × (count ≤ 3) }
 {
     let mut plan = plan_area();
     let mut arrivals = arrivals_area();
     let reply = plan_three(nodes, rows, count, &mut plan, &mut arrivals);
-    io::write_all(OUT, b"case=");
-    io::write_all(OUT, letter);
-    io::write_all(OUT, b"\n");
-    print_areas(nodes as usize, reply, &plan, &arrivals);
+    rt.write_all(b"case=")?;
+    rt.write_all(letter)?;
+    rt.write_all(b"\n")?;
+    print_areas(rt, nodes as usize, reply, &plan, &arrivals)
 }
 
 // The cases of document 01's sweep table that are accepted or late.
-fn run_rule_cases() {
-    run_case(b"A", 4, two(row(0, 2, 3), row(0, 1, 2)), 2);
-    run_case(b"B", 4, two(row(0, 1, 2), row(0, 3, 3)), 2);
-    run_case(b"C", 4, two(row(2, 0, 2), row(2, 3, 2)), 2);
-    run_case(b"D", 4, thrice(row(0, 1, 1)), 2);
-    run_case(b"E", 4, thrice(row(0, 2, 1)), 1);
-    run_case(b"F", 2, thrice(row(1, 0, 3)), 3);
-    run_case(b"G", 2, thrice(row(1, 0, 2)), 3);
+fn run_rule_cases(rt: &impl Print) -> io::Result<()> {
+    run_case(rt, b"A", 4, two(row(0, 2, 3), row(0, 1, 2)), 2)?;
+    run_case(rt, b"B", 4, two(row(0, 1, 2), row(0, 3, 3)), 2)?;
+    run_case(rt, b"C", 4, two(row(2, 0, 2), row(2, 3, 2)), 2)?;
+    run_case(rt, b"D", 4, thrice(row(0, 1, 1)), 2)?;
+    run_case(rt, b"E", 4, thrice(row(0, 2, 1)), 1)?;
+    run_case(rt, b"F", 2, thrice(row(1, 0, 3)), 3)?;
+    run_case(rt, b"G", 2, thrice(row(1, 0, 2)), 3)
 }
 
 // The cases at the edges: no rows, a bad row, the latest due slot, and too many nodes.
-fn run_edge_cases() {
-    run_case(b"H", 4, thrice(row(0, 1, 1)), 0);
-    run_case(b"J", 4, thrice(row(0, 0, 1025)), 1);
-    run_case(b"K", 2, thrice(row(0, 1, 1025)), 1);
-    run_case(b"K", 2, thrice(row(0, 1, 1024)), 1);
-    run_case(b"L", 33, thrice(row(40, 40, 0)), 1);
+fn run_edge_cases(rt: &impl Print) -> io::Result<()> {
+    run_case(rt, b"H", 4, thrice(row(0, 1, 1)), 0)?;
+    run_case(rt, b"J", 4, thrice(row(0, 0, 1025)), 1)?;
+    run_case(rt, b"K", 2, thrice(row(0, 1, 1025)), 1)?;
+    run_case(rt, b"K", 2, thrice(row(0, 1, 1024)), 1)?;
+    run_case(rt, b"L", 33, thrice(row(40, 40, 0)), 1)
 }
 
 // An area for editing that nobody has opened yet.
@@ -265,69 +285,70 @@ fn table_area() -> Area {
 }
 
 // Writes the loads of the first four links of a table that is edited.
-fn print_loads(table: &Area) {
+fn print_loads(rt: &impl Print, table: &Area) -> io::Result<()> {
     let mut p = 0;
     while p < 4 {
-        print_line(b"load", wide(area::link_load(table, Node(p))));
+        print_line(rt, b"load", wide(area::link_load(table, Node(p))))?;
         p += 1;
     }
+    Ok(())
 }
 
 // Writes what an edit came to, and the rows, loads and busiest link that the table then has.
-fn print_edit(name: &[u8], verdict: Verdict, table: &Area) {
-    io::write_all(OUT, b"edit=");
-    io::write_all(OUT, name);
-    io::write_all(OUT, b"\n");
+fn print_edit(rt: &impl Print, name: &[u8], verdict: Verdict, table: &Area) -> io::Result<()> {
+    rt.write_all(b"edit=")?;
+    rt.write_all(name)?;
+    rt.write_all(b"\n")?;
     match verdict {
-        Verdict::Good => print_answer(0, 0, 0),
-        Verdict::Refused(r) => print_answer(r.number, r.row, r.slot.0),
+        Verdict::Good => print_answer(rt, 0, 0, 0)?,
+        Verdict::Refused(r) => print_answer(rt, r.number, r.row, r.slot.0)?,
     }
-    print_line(b"rows", wide(area::row_count(table)));
-    print_loads(table);
+    print_line(rt, b"rows", wide(area::row_count(table)))?;
+    print_loads(rt, table)?;
     let busiest = area::busiest(table);
-    print_line(b"busiest", wide(busiest.link.0));
-    print_line(b"most", wide(busiest.load));
+    print_line(rt, b"busiest", wide(busiest.link.0))?;
+    print_line(rt, b"most", wide(busiest.load))
 }
 
 // Opens a table in the lent area and adds rows, one past node 0; a bad one is refused under its coming number.
-fn run_adding(table: &mut Area) {
-    print_edit(b"open", edit::open(table, 33), table);
-    print_edit(b"open", edit::open(table, 4), table);
-    print_edit(b"add", edit::add(table, row(0, 2, 4)), table);
-    print_edit(b"add", edit::add(table, row(3, 1, 5)), table);
-    print_edit(b"add", edit::add(table, row(1, 0, 9)), table);
-    print_edit(b"add", edit::add(table, row(4, 0, 9)), table);
+fn run_adding(rt: &impl Print, table: &mut Area) -> io::Result<()> {
+    print_edit(rt, b"open", edit::open(table, 33), table)?;
+    print_edit(rt, b"open", edit::open(table, 4), table)?;
+    print_edit(rt, b"add", edit::add(table, row(0, 2, 4)), table)?;
+    print_edit(rt, b"add", edit::add(table, row(3, 1, 5)), table)?;
+    print_edit(rt, b"add", edit::add(table, row(1, 0, 9)), table)?;
+    print_edit(rt, b"add", edit::add(table, row(4, 0, 9)), table)
 }
 
 // Changes and removes rows of that table; numbers that aren't there are refused.
-fn run_changing(table: &mut Area) {
-    print_edit(b"change", edit::change(table, 1, row(2, 3, 1)), table);
-    print_edit(b"change", edit::change(table, 9, row(2, 3, 1)), table);
-    print_edit(b"remove", edit::remove(table, 2), table);
-    print_edit(b"remove", edit::remove(table, 0), table);
+fn run_changing(rt: &impl Print, table: &mut Area) -> io::Result<()> {
+    print_edit(rt, b"change", edit::change(table, 1, row(2, 3, 1)), table)?;
+    print_edit(rt, b"change", edit::change(table, 9, row(2, 3, 1)), table)?;
+    print_edit(rt, b"remove", edit::remove(table, 2), table)?;
+    print_edit(rt, b"remove", edit::remove(table, 0), table)
 }
 
 // Plans the table that was edited.
-fn run_edited(table: &Area) {
+fn run_edited(rt: &impl Print, table: &Area) -> io::Result<()> {
     let mut plan = plan_area();
     let mut arrivals = arrivals_area();
     let rows = area::row_count(table) as usize;
     let columns = area::columns_of(table);
     let reply = plan_columns(table[0], rows, columns, &mut plan, &mut arrivals);
-    print_areas(4, reply, &plan, &arrivals);
+    print_areas(rt, 4, reply, &plan, &arrivals)
 }
 
 // Edits a table, and plans it.
-fn run_editing() {
+fn run_editing(rt: &impl Print) -> io::Result<()> {
     let mut table = table_area();
-    run_adding(&mut table);
-    run_changing(&mut table);
-    run_edited(&table);
+    run_adding(rt, &mut table)?;
+    run_changing(rt, &mut table)?;
+    run_edited(rt, &table)
 }
 
 // Runs the sweep table through the planner, then the cases of editing.
-fn main() {
-    run_rule_cases();
-    run_edge_cases();
-    run_editing();
+fn main(rt: HostRuntime) -> io::Result<()> {
+    run_rule_cases(&rt)?;
+    run_edge_cases(&rt)?;
+    run_editing(&rt)
 }
