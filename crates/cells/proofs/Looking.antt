@@ -1,10 +1,11 @@
 -- How many looks a run takes, cell by cell.
 --     looks_by_cells                the looks at the first t instants, summed up over the cells
+--     looked                        how often a cell was looked at, as code counts it
 --     seen_waiting, seen_there      how often a cell is looked at that is still under way, and one that is delivered
 --     looks_are_instants            where no cell is late the looks are the sum of all delivery instants
 --     looks_bounded                 there are never more than cells × (slots + 1)
 -- Assumes nothing.
-use mathlib.Core.Path.{◌≡◌, refl, ◌∙◌, ap, sym}
+use mathlib.Core.Path.{◌≡◌, refl, ◌∙◌, ap}
 use Prim.Native.Nat.{ℕ, zero, suc, ◌+◌, ◌-◌, ◌*◌, ◌≤◌, ◌<◌}
 use native.Mathlib.Nat.{mul-le-mul_left, mul-suc, mul-zero}
 use native.Mathlib.Omega.{arith, by_contra}
@@ -12,7 +13,7 @@ use native.Mathlib.Decide.{dec_lt}
 use mathlib.Core.Bool.{Bool, true, false, cond}
 use mathlib.Core.List.{List, [], ◌∷◌}
 use borrow.Author.Tests.{lt-ltb, le-ltb}
-use lib.Dec.{ltb}
+use lib.Dec.{eqb, ltb}
 use lib.ListN.{length, get_or}
 use Rattle.lists.specs.Lists.{build, total}
 use Rattle.lists.proofs.Build.{build_ext}
@@ -38,6 +39,10 @@ busy-most (x ∷ xs) = omega (arith, busy-most xs, one (ltb 0 x))
     one : (b : Bool) → cond b 1 0 ≤ 1
     one true = omega arith
     one false = omega arith
+
+-- How often cell j was looked at, from what a run left.
+abbrev pub looked : (left stamps : List ℕ) (all j : ℕ) → ℕ
+looked left stamps all j = cond (eqb (get_or left j 0) 0) (get_or stamps j 0) all
 
 module _ (T : Traffic) (start : List ℕ) where
   -- The links that cell i has to go at instant t.

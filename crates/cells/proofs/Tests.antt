@@ -1,7 +1,7 @@
 -- Whether a list of entries is legal, meets its table and is a schedule of rows can be computed. Each decision is put
 -- together from the parts of the definition as it stands, whatever numbers these compare.
 -- Assumes nothing.
-use Prim.Native.Nat.{ℕ, suc, ◌+◌, ◌<◌, ◌≤◌}
+use Prim.Native.Nat.{ℕ, suc}
 use native.Mathlib.Omega.{arith}
 use native.Mathlib.Decide.{ℕ_discrete, dec_le, dec_lt}
 use mathlib.Core.List.{List}

@@ -1,7 +1,7 @@
 -- Rows of several cells, and legal schedules that name rows, in the words of documents 01 and 02. Neither the sending
 -- rule nor a due slot of a cell is mentioned.
 -- Rows, cells and a row's places are counted from 0; a schedule names row i as i + 1, and 0 is idle.
-use Rattle.std.specs.Prelude.{ℕ, zero, suc, ◌+◌, ◌*◌, ◌<◌, ◌≤◌, ◌≡◌, Bool, cond, ◌&&◌, List, [], ◌∷◌, ◌++◌, eqb, length, get_or}
+use Rattle.std.specs.Prelude.{ℕ, zero, suc, ◌*◌, ◌<◌, ◌≤◌, ◌≡◌, Bool, cond, ◌&&◌, List, [], ◌∷◌, ◌++◌, eqb, length, get_or}
 use Rattle.lists.specs.Lists.{build}
 use Rattle.slack.specs.Slack.{Traffic, traffic, under_way, place, moved}
 use Rattle.optimal.specs.Schedule.{named_in}
