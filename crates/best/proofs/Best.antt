@@ -14,11 +14,11 @@ use mathlib.Core.List.{List, [], ◌∷◌, map}
 use lib.ListN.{length, get_or, take, drop, get_or-map}
 use Rattle.lists.specs.Lists.{total}
 use Rattle.lists.proofs.Build.{build_ext}
-use Rattle.slack.specs.Slack.{Traffic, OnRing, place, moved, slot_of, pick, state_at, plan_of, late_row, stop_of}
+use Rattle.slack.specs.Slack.{Traffic, OnRing, moved, slot_of, pick, state_at, plan_of, late_row, stop_of}
 use Rattle.slack.proofs.Rule.{Stands, Picked, pick_least, pick-none, slot_entry, plan_length}
 use Rattle.slack.proofs.Rule.{state-length, state_on_ring, state-less}
 use Rattle.slack.proofs.Ending.{stop_first}
-use Rattle.optimal.specs.Schedule.{named_in, left_at, Meets}
+use Rattle.optimal.specs.Schedule.{named_in, Meets}
 use Rattle.optimal.proofs.Plan.{plan_names, plan_state}
 use Rattle.optimal.proofs.Optimal.{InTime, never_late_beside, plan_is_schedule}
 use Rattle.cells.specs.Rows.{Freight, owners, cell_links, road, waits, earliest, carried, cells_left}

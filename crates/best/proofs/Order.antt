@@ -6,15 +6,15 @@
 use mathlib.Core.Path.{◌≡◌, refl, ◌∙◌, ap, sym}
 use Prim.Native.Nat.{ℕ, zero, suc, ◌+◌, ◌-◌, ◌≤◌, ◌<◌}
 use native.Mathlib.Omega.{arith}
-use native.Mathlib.Decide.{dec_lt, ℕ_discrete}
-use mathlib.Core.Bool.{Bool, true, false, ◌&&◌}
-use mathlib.Core.List.{List, []}
+use native.Mathlib.Decide.{dec_lt}
+use mathlib.Core.Bool.{true, ◌&&◌}
+use mathlib.Core.List.{List}
 use borrow.Author.Tests.{ltb-true, lt-ltb, eqb-true, eq-eqb}
 use lib.Dec.{ltb, eqb}
 use lib.ListN.{length, get_or}
 use Rattle.lists.specs.Lists.{total}
 use Rattle.lists.proofs.Build.{get_or_build}
-use Rattle.slack.specs.Slack.{Traffic, traffic, OnRing, under_way, place, moved}
+use Rattle.slack.specs.Slack.{Traffic, OnRing, under_way, place, moved}
 use Rattle.lists.proofs.Truth.{differ, both_hold}
 use Rattle.slack.proofs.Rule.{Stands, place_inside, moved_named, moved_by_one, run_length, run_on_ring, run_less}
 use Rattle.ring.specs.Ring.{distance}

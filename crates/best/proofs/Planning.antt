@@ -2,16 +2,14 @@
 --     same-largest          the largest due slot of a cell is that of a row, so a plan's size stays
 --     told_sends            told in rows it has as many sends as before: one for each link of each cell
 -- Assumes nothing.
-use mathlib.Core.Path.{◌≡◌, refl, ◌∙◌, ap, sym}
+use mathlib.Core.Path.{◌≡◌, refl, ◌∙◌, ap}
 use Prim.Native.Nat.{ℕ, zero, suc, ◌+◌, ◌-◌, ◌≤◌, ◌<◌}
 use native.Mathlib.Nat.{le_antisymm}
 use native.Mathlib.Omega.{arith}
-use mathlib.Core.Bool.{cond}
-use mathlib.Core.List.{List, [], ◌∷◌, map}
+use mathlib.Core.List.{List, [], ◌∷◌}
 use borrow.Author.Tests.{lt-ltb}
-use lib.Dec.{ltb}
 use lib.ListN.{length, get_or}
-use Rattle.lists.specs.Lists.{build, total, largest}
+use Rattle.lists.specs.Lists.{total, largest}
 use Rattle.lists.proofs.Figures.{at_most-largest, largest_below}
 use Rattle.slack.specs.Slack.{plan_of, stop_of}
 use Rattle.optimal.specs.Schedule.{busy}
