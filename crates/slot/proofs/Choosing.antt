@@ -2,7 +2,7 @@
 --     lowest_is_least, chosen_is_least     what each link carries, at whatever instant
 --     figures_next                         the figures after the slot
 -- Assumes nothing.
-use mathlib.Core.Path.{◌≡◌, refl, ◌∙◌, ap, sym}
+use mathlib.Core.Path.{◌≡◌, refl, sym}
 use mathlib.Core.Bool.{Bool, true, false, cond, ◌&&◌, ◌||◌}
 use mathlib.Core.List.{List}
 use Prim.Native.Nat.{ℕ, zero, suc, ◌-◌, ◌≤◌, ◌<◌}
@@ -12,7 +12,6 @@ use lib.Dec.{eqb}
 use lib.IntN.{ℤ, pos, ◌+ℤ◌}
 use lib.Signed.{lt_z}
 use lib.ListN.{length, get_or}
-use Rattle.lists.specs.Lists.{build}
 use Rattle.lists.proofs.Build.{build_ext}
 use Rattle.slack.specs.Slack.{Traffic, OnRing, under_way, place, slack, better, pick, slot_of, moved}
 use Rattle.slack.specs.Figure.{figure, figures_of}

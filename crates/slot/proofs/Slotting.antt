@@ -12,7 +12,7 @@ use lib.Signed.{mag}
 use lib.ListN.{length, get_or}
 use Rattle.lists.proofs.Build.{get_or_build}
 use Rattle.slack.specs.Slack.{Traffic, traffic, OnRing, slot_of}
-use Rattle.slack.specs.Figure.{turn_of, figure_of, figure, figures_of}
+use Rattle.slack.specs.Figure.{turn_of, figure, figures_of}
 use Rattle.slack.proofs.Signed.{difference_range}
 use Rattle.slack.proofs.Figures.{figure_is, figures-long, figure_at}
 use Rattle.slot.specs.Steps.{board, Placed, lowest, seen, turned, less, stamped}
