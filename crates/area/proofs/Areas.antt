@@ -12,7 +12,7 @@ use Prim.Native.Nat.{ℕ, ◌+◌, ◌-◌, ◌*◌, ◌≤◌, ◌<◌}
 use native.Mathlib.Omega.{arith}
 use mathlib.Core.List.{List, [], ◌∷◌, ◌++◌}
 use lib.ListN.{length, get_or, drop, replicate, length-append, length-drop, length-replicate, get_or-append}
-use lib.Seq.{drop_at, drop-drop, drop-append-add, get_or-drop, get_or-append-add}
+use lib.Seq.{drop_at, drop-drop, get_or-drop, get_or-append-add}
 use Rattle.lists.specs.Lists.{build}
 use Rattle.lists.proofs.Build.{length-build, get_or_build, build_ext, build_of}
 use Rattle.table.specs.declared.Row.{Row}
