@@ -8,7 +8,7 @@ use Prim.Native.Nat.{ℕ, ◌+◌, ◌-◌, ◌≤◌, ◌<◌}
 use native.Mathlib.Omega.{arith}
 use native.Mathlib.Nat.{add_comm}
 use mathlib.Core.Bool.{Bool}
-use mathlib.Core.List.{List, [], ◌∷◌, ◌++◌, map, append-nil}
+use mathlib.Core.List.{List, [], ◌∷◌, ◌++◌, map}
 use borrow.Rule.Slice.PartMut.{mid_of, put_mid, mid_len}
 use lib.ListN.{length, get_or, set, take, drop, replicate, length-drop, drop_of_length-le}
 use lib.Seq.{take_at, get_or-drop}

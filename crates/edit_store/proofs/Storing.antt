@@ -7,7 +7,7 @@
 use mathlib.Core.Path.{◌≡◌, refl, ◌∙◌, ap, sym}
 use mathlib.Core.Bool.{Bool, true, false}
 use mathlib.Core.List.{List, [], ◌∷◌, ◌++◌, append_assoc, append-nil}
-use Prim.Native.Nat.{ℕ, suc, ◌+◌, ◌*◌, ◌-◌, ◌≤◌, ◌<◌}
+use Prim.Native.Nat.{ℕ, suc, ◌+◌, ◌-◌, ◌≤◌, ◌<◌}
 use native.Mathlib.Omega.{arith}
 use borrow.Rule.Slice.PartMut.{mid_of, put_mid}
 use lib.ListN.{length, get_or, take, drop, set, replicate, length-append, length-drop, take-append-drop}
@@ -17,7 +17,7 @@ use Rattle.lists.proofs.Build.{length-build, build_ext, get_or_build}
 use Rattle.table.specs.declared.Row.{Row}
 use Rattle.table.specs.Table.{most-rows, row_numbers}
 use Rattle.table.specs.Steps.{none}
-use Rattle.area.specs.Area.{most-links, row-width, loads_begin, rows_begin, row_place, room, numbers, laid}
+use Rattle.area.specs.Area.{most-links, row-width, loads_begin, row_place, room, numbers, laid}
 use Rattle.area.specs.Area.{nodes_in, count_in, load_in, row_in, rows_in}
 use Rattle.area.proofs.RowNumbers.{numbers-long, numbers-cons, numbers-parted, numbers_later}
 use Rattle.area.proofs.Areas.{head, head_long, laid_is, laid_again, rows-counted}
