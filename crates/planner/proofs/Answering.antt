@@ -16,7 +16,6 @@ use Rattle.run.specs.declared.Ending.{Ending}
 use Rattle.rows.specs.Steps.{RanRows}
 use Rattle.planner.specs.declared.Summary.{Summary}
 use Rattle.planner.specs.declared.Answer.TheVariants.{Accepted, Refused}
-use Rattle.planner.specs.declared.Reply.{Reply}
 use Rattle.planner.specs.Planner.{summary_of}
 use Rattle.planner.specs.Steps.{crossed, RunPlanned, answer_to_run}
 

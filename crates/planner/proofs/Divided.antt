@@ -25,7 +25,6 @@ use Rattle.table.specs.Table.{WellFormed, lengths, cells_in, sends_of, last_due}
 use Rattle.optimal.proofs.Deliveries.{delivered_first}
 use Rattle.cells.specs.Rows.{Freight, cell_links}
 use Rattle.cells.specs.Cells.{cell_traffic}
-use Rattle.cells.specs.Steps.{Laden}
 use Rattle.best.proofs.Order.{links-long, laid_on_ring}
 use Rattle.best.proofs.Arriving.{last, arrival_is}
 use Rattle.planner.specs.declared.Summary.{Summary}

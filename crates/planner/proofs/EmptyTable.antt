@@ -15,7 +15,7 @@ use Rattle.lists.specs.Lists.{total, largest}
 use Rattle.table.specs.Table.{judge, judge_rows, judge_all, after_rows, cells_in, lengths, dues, distances, sends_of, last_due}
 use Rattle.slack.specs.Slack.{plan_of, arrivals_of, late_from, late_row, any_under_way, stop_from, stop_of}
 use Rattle.cells.specs.Rows.{per_cell, owners_of, owners, laid_out, cell_links, LegalRows, MeetsRows}
-use Rattle.cells.specs.Cells.{cell_traffic, owner_of, told_by, row_plan, end_by, row_stop}
+use Rattle.cells.specs.Cells.{owner_of, told_by, row_plan, end_by, row_stop}
 use Rattle.cells.specs.Cells.{of_last_cells, row_arrivals}
 use Rattle.planner.specs.declared.Summary.{Summary}
 use Rattle.planner.specs.declared.Answer.TheVariants.{Accepted}

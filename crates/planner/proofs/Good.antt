@@ -17,7 +17,7 @@ use Rattle.ring.specs.Ring.{distance}
 use Rattle.ring.proofs.Standing.{Away, away}
 use Rattle.table.specs.declared.Row.{Row}
 use Rattle.table.specs.declared.Verdict.TheVariants.{Good}
-use Rattle.table.specs.Table.{judge_rows, judge_all, refuse, distances, sends_of, last_due}
+use Rattle.table.specs.Table.{judge_rows, judge_all, refuse, sends_of, last_due}
 use Rattle.table.specs.Steps.{rows_of, Measuring}
 use Rattle.table.proofs.Judging.{GoodRow, good_rows, all_good, rows_long, rows_at}
 use Rattle.table.proofs.Judging.{its_destinations, its_lengths, its_cells, its_dues, its_distances}

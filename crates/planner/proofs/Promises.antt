@@ -8,7 +8,7 @@
 -- Assumes nothing.
 use mathlib.Core.Path.{◌≡◌, refl, ◌∙◌, ap, sym}
 use mathlib.Core.Logic.{◌↔◌}
-use Prim.Native.Nat.{ℕ, zero, suc, ◌+◌, ◌-◌, ◌≤◌, ◌<◌}
+use Prim.Native.Nat.{ℕ, zero, suc, ◌-◌, ◌≤◌, ◌<◌}
 use native.Mathlib.Omega.{arith}
 use native.Mathlib.Nat.{mul_comm}
 use mathlib.Core.Bool.{cond}
@@ -17,7 +17,7 @@ use borrow.Author.Tests.{le-ltb, ne_eqb}
 use lib.Dec.{eqb, eqb-suc-zero}
 use lib.ListN.{length, get_or, take, drop, length-map, get_or-map}
 use lib.Seq.{take_at}
-use Rattle.lists.specs.Lists.{build, total, largest}
+use Rattle.lists.specs.Lists.{build, largest}
 use Rattle.lists.proofs.Truth.{differ}
 use Rattle.ring.specs.Ring.{distance}
 use Rattle.lists.proofs.Figures.{at_most-largest}

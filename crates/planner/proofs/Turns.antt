@@ -8,7 +8,6 @@ use Prim.Native.Nat.{ℕ, zero, suc, ◌+◌, ◌≤◌, ◌<◌}
 use native.Mathlib.Omega.{arith}
 use mathlib.Core.List.{List}
 use lib.ListN.{length, get_or}
-use Rattle.lists.specs.Lists.{total}
 use Rattle.ring.specs.Ring.{distance}
 use Rattle.ring.proofs.Standing.{full_turn}
 use Rattle.table.specs.declared.Row.{Row}
