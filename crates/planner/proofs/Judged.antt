@@ -1,9 +1,10 @@
 -- From the judgement of a table to the planner's outcome.
 --     turned_away_lem                     a refusal before 7: without a look, and the areas are left as they were
+--     held_by                         columns of 512 places hold a table that was judged to be good
 --     tabled                          columns that hold a well-formed table
 --     let_through                     what planning their fronts gives is what is promised of the table
 -- Assumes nothing.
-use mathlib.Core.Path.{◌≡◌, ◌∙◌}
+use mathlib.Core.Path.{◌≡◌, ◌∙◌, sym}
 use Prim.Native.Nat.{ℕ}
 use mathlib.Core.List.{List}
 use borrow.Author.Tests.{ne_eqb}
@@ -11,9 +12,10 @@ use lib.ListN.{take}
 use Rattle.table.specs.declared.Row.{Row}
 use Rattle.table.specs.declared.Columns.{Columns}
 use Rattle.table.specs.declared.Refusal.{Refusal}
+use Rattle.table.specs.declared.Verdict.{Verdict}
 use Rattle.table.specs.declared.Verdict.TheVariants as verdict
 use Rattle.table.specs.Table.{judge}
-use Rattle.table.specs.Steps.{listed}
+use Rattle.table.specs.Steps.{listed, Columned}
 use Rattle.table.proofs.Whole.{table_early, Held, its_bounds, front_rows, fronts, listed_is}
 use Rattle.planner.specs.declared.Reply.{Reply}
 use Rattle.planner.specs.Planner.{Planned, the_answer, after_verdict, looks_after, area_after}
@@ -25,6 +27,10 @@ unfolding the_answer after_verdict looks_after area_after
 turned_away_lem {n} {rows} {r = r} e is =
     let early = ne_eqb r.number 9 (table_early n rows r e) in
     rw is (record { answers = rw e; looked = rw early; fills_plan = rw early; fills_arrivals = rw early })
+
+-- A table that was judged to be good lies in columns of 512 places.
+pub held_by : {n count : ℕ} {c : Columns} → Columned c → {v : Verdict} → v ≡ judge n (listed count c) → v ≡ verdict.Good → Held n count c
+held_by columned told good = record { columned = columned; good = sym told ∙ good }
 
 -- Columns that hold a well-formed table in their fronts.
 module _ {n count : ℕ} {c : Columns} (held : Held n count c) where
