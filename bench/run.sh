@@ -2,5 +2,5 @@
 # Builds the archive, then times its planner beside Rust planners that scan all cells in each slot.
 set -euo pipefail
 cd "$(dirname "$0")/.."
-rt staticlib panel
+(cd crates/panel && rt lib)
 cargo run --quiet --release --offline --locked --manifest-path bench/Cargo.toml

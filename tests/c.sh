@@ -1,10 +1,10 @@
 #!/usr/bin/env bash
 # The header as C99 and C++, and the programs of examples/: the operator's path of panel.c, and sentence.c with each
 # catalogue and each table. What they print is held to panel.out and sentence.out.
-# It needs the archive: rt staticlib panel, or another one in the folder PANEL_LIB.
+# It needs the archive: `rt lib` in crates/panel, or another one in the folder PANEL_LIB.
 set -euo pipefail
 cd "$(dirname "$0")/.."
-archive=${PANEL_LIB:-target/staticlib}/libpanel.a
+archive=${PANEL_LIB:-crates/panel/out}/libpanel.a
 out=target/c
 warnings="-Wall -Wextra -Werror -pedantic"
 mkdir -p "$out"

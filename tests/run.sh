@@ -4,7 +4,7 @@ set -euo pipefail
 cd "$(dirname "$0")/.."
 . tests/machine.sh
 tests/readme.sh
-python3 tests/program.py target/bin/plan
+python3 tests/program.py crates/plan/out/plan
 cmp examples/catalogues/english.txt crates/saying/stdin
 tests/c.sh
 cargo test --release --offline --locked --manifest-path tests/Cargo.toml -- --show-output
