@@ -13,7 +13,7 @@ import sys
 DOCS = ["docs/RULES.md", "docs/promises.md"]
 SOURCES = ["crates/*/src/*.rt", "crates/*/specs/*.antt", "crates/*/proofs/**/*.antt", "include/*.h", "examples/*.c",
            "tests/**/*.rs", "tests/**/*.py", "tests/*.sh", "bench/src/*.rs", "tools/*.py"]
-NAME = re.compile(r"^[A-Za-z_][\w·′₀-₉-]*$")
+NAME = re.compile(r"^[A-Za-z_][\w·'′₀-₉-]*$")
 
 
 def tree_names():
@@ -23,7 +23,7 @@ def tree_names():
         for path in glob.glob(pattern, recursive=True):
             for line in open(path):
                 line = re.sub(r"(^|\s)(--|//|#)\s.*$", "", line)
-                names.update(re.findall(r"[A-Za-z_][\w·′₀-₉-]*", line))
+                names.update(re.findall(r"[A-Za-z_][\w·'′₀-₉-]*", line))
     return names
 
 
