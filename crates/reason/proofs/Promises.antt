@@ -4,7 +4,7 @@
 --     members_are_cells       the cells marked are as many as said, and more than the slots before
 --     marked_rows_late        every table on this ring that has the marked rows among its rows is late
 --     never_nine              9 is never given
--- Two outcomes that fit the promise are equal: `one-reason` (in `Saying.antt`).
+-- Two outcomes that fit the promise are equal: `one_reason` (in `Saying.antt`).
 -- Assumes nothing.
 use mathlib.Core.Path.{◌≡◌, refl, ◌∙◌, ap, sym}
 use mathlib.Core.Logic.{◌↔◌}
