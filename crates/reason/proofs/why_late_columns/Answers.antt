@@ -2,76 +2,55 @@
 -- at.
 -- Assumes nothing.
 use borrow.Author.Rules.{rules}
-use mathlib.Core.Path.{◌≡◌, ◌∙◌, sym}
-use Prim.Native.Nat.{ℕ}
-use lib.ListN.{length}
-use Rattle.table.specs.declared.Verdict.TheVariants.{Good}
-use Rattle.table.specs.Table.{judge}
-use Rattle.table.specs.Steps.{listed}
-use Rattle.table.specs.declared.Columns.{Columns}
-use Rattle.table.proofs.Whole.{Held, in_column, in_front, fronts_good}
-use Rattle.planner.proofs.Judged.{tabled}
+use mathlib.Core.Path.{◌∙◌, sym}
+use Rattle.table.proofs.Whole.{in_column, in_front, fronts_good}
+use Rattle.planner.proofs.Judged.{held_by, tabled}
 use Rattle.reason.proofs.Saying.{turned_away_lem, let_through}
 use Rattle.reason.proofs.why_late_columns.Goals as goal
 
--- The columns hold a good table, where its jam is looked for.
-held : (n count : ℕ) (c : Columns) → length c.src ≡ 512 → length c.dst ≡ 512 → length c.len ≡ 512 → length c.due ≡ 512
-    → judge n (listed count c) ≡ Good → Held n count c
-held n count c src dst len due good =
-    record { columned = record { src_all = src; dst_all = dst; len_all = len; due_all = due }; good = good }
-
 pub slice_bounds-src-end : goal.slice_bounds-src-end
 slice_bounds-src-end c =
-    let h = held c.args.nodes c.args.rows c.args.columns (search (rules, c.well_formed)) (search (rules, c.well_formed))
-    (search (rules, c.well_formed)) (search (rules, c.well_formed)) (sym c.judge_columns-verdict.ensures ∙ c.in-Good.is) in
+    let h = held_by {c = c.args.columns} (search (rules, c.well_formed)) c.judge_columns-verdict.ensures c.in-Good.is in
     in_column h c.args.columns.src h.columned.src_all
 
 pub slice_bounds-good_reason-end : goal.slice_bounds-good_reason-end
 slice_bounds-good_reason-end c =
-    let h = held c.args.nodes c.args.rows c.args.columns (search (rules, c.well_formed)) (search (rules, c.well_formed))
-    (search (rules, c.well_formed)) (search (rules, c.well_formed)) (sym c.judge_columns-verdict.ensures ∙ c.in-Good.is) in
+    let h = held_by {c = c.args.columns} (search (rules, c.well_formed)) c.judge_columns-verdict.ensures c.in-Good.is in
     in_front h c.args.columns.src h.columned.src_all
 
 pub slice_bounds-dst-end : goal.slice_bounds-dst-end
 slice_bounds-dst-end c =
-    let h = held c.args.nodes c.args.rows c.args.columns (search (rules, c.well_formed)) (search (rules, c.well_formed))
-    (search (rules, c.well_formed)) (search (rules, c.well_formed)) (sym c.judge_columns-verdict.ensures ∙ c.in-Good.is) in
+    let h = held_by {c = c.args.columns} (search (rules, c.well_formed)) c.judge_columns-verdict.ensures c.in-Good.is in
     in_column h c.args.columns.dst h.columned.dst_all
 
 pub slice_bounds-good_reason-end-in-Good : goal.slice_bounds-good_reason-end-in-Good
 slice_bounds-good_reason-end-in-Good c =
-    let h = held c.args.nodes c.args.rows c.args.columns (search (rules, c.well_formed)) (search (rules, c.well_formed))
-    (search (rules, c.well_formed)) (search (rules, c.well_formed)) (sym c.judge_columns-verdict.ensures ∙ c.in-Good.is) in
+    let h = held_by {c = c.args.columns} (search (rules, c.well_formed)) c.judge_columns-verdict.ensures c.in-Good.is in
     in_front h c.args.columns.dst h.columned.dst_all
 
 pub slice_bounds-len-end : goal.slice_bounds-len-end
 slice_bounds-len-end c =
-    let h = held c.args.nodes c.args.rows c.args.columns (search (rules, c.well_formed)) (search (rules, c.well_formed))
-    (search (rules, c.well_formed)) (search (rules, c.well_formed)) (sym c.judge_columns-verdict.ensures ∙ c.in-Good.is) in
+    let h = held_by {c = c.args.columns} (search (rules, c.well_formed)) c.judge_columns-verdict.ensures c.in-Good.is in
     in_column h c.args.columns.len h.columned.len_all
 
 pub slice_bounds-good_reason-end-in-Good-2 : goal.slice_bounds-good_reason-end-in-Good-2
 slice_bounds-good_reason-end-in-Good-2 c =
-    let h = held c.args.nodes c.args.rows c.args.columns (search (rules, c.well_formed)) (search (rules, c.well_formed))
-    (search (rules, c.well_formed)) (search (rules, c.well_formed)) (sym c.judge_columns-verdict.ensures ∙ c.in-Good.is) in
+    let h = held_by {c = c.args.columns} (search (rules, c.well_formed)) c.judge_columns-verdict.ensures c.in-Good.is in
     in_front h c.args.columns.len h.columned.len_all
 
 pub slice_bounds-due-end : goal.slice_bounds-due-end
 slice_bounds-due-end c =
-    let h = held c.args.nodes c.args.rows c.args.columns (search (rules, c.well_formed)) (search (rules, c.well_formed))
-    (search (rules, c.well_formed)) (search (rules, c.well_formed)) (sym c.judge_columns-verdict.ensures ∙ c.in-Good.is) in
+    let h = held_by {c = c.args.columns} (search (rules, c.well_formed)) c.judge_columns-verdict.ensures c.in-Good.is in
     in_column h c.args.columns.due h.columned.due_all
 
 pub slice_bounds-good_reason-end-in-Good-3 : goal.slice_bounds-good_reason-end-in-Good-3
 slice_bounds-good_reason-end-in-Good-3 c =
-    let h = held c.args.nodes c.args.rows c.args.columns (search (rules, c.well_formed)) (search (rules, c.well_formed))
-    (search (rules, c.well_formed)) (search (rules, c.well_formed)) (sym c.judge_columns-verdict.ensures ∙ c.in-Good.is) in
+    let h = held_by {c = c.args.columns} (search (rules, c.well_formed)) c.judge_columns-verdict.ensures c.in-Good.is in
     in_front h c.args.columns.due h.columned.due_all
 
 pub good_reason-requires : goal.good_reason-requires
 good_reason-requires c =
-    let h = held c.args.nodes c.args.rows c.args.columns (search (rules, c.well_formed)) (search (rules, c.well_formed))
-    (search (rules, c.well_formed)) (search (rules, c.well_formed)) (sym c.judge_columns-verdict.ensures ∙ c.in-Good.is) in
+    let h = held_by {c = c.args.columns} (search (rules, c.well_formed)) c.judge_columns-verdict.ensures c.in-Good.is in
     (tabled h, fronts_good h)
 
 pub returns-in-Refused : goal.returns-in-Refused
@@ -79,6 +58,5 @@ returns-in-Refused c = turned_away_lem (sym c.judge_columns-verdict.ensures ∙ 
 
 pub returns-in-Good : goal.returns-in-Good
 returns-in-Good c =
-    let h = held c.args.nodes c.args.rows c.args.columns (search (rules, c.well_formed)) (search (rules, c.well_formed))
-    (search (rules, c.well_formed)) (search (rules, c.well_formed)) (sym c.judge_columns-verdict.ensures ∙ c.in-Good.is) in
+    let h = held_by {c = c.args.columns} (search (rules, c.well_formed)) c.judge_columns-verdict.ensures c.in-Good.is in
     let_through h c.good_reason.ensures
