@@ -1,10 +1,12 @@
 // Plans a table read from standard input.
 #![tactic(auto)]
 
-ghost use Rattle.std.specs.Prelude.{length, ◌≡◌};
-ghost use Rattle.report.specs.Report.{input_most, output_most};
+ghost use Rattle.std.specs.Prelude.{length, ◌≡◌, OnOk, IfSome};
+ghost use Rattle.std.specs.Io.KnownBytes.{Appends};
+ghost use Rattle.report.specs.Report.{input_most, output_most, output_of};
 
 use std::io;
+use std::io::{Read, Write};
 
 // Room for the text: a longer input is read no further, since the rest changes no answer.
 fn text_room() -> [u8; 24576]
@@ -20,11 +22,19 @@ fn output_room() -> [u8; 212992]
     [0u8; 212992]
 }
 
-// Reads a table from standard input, plans it, and prints the answer.
-fn main(rt: HostRuntime) -> io::Result<()> {
+// Reads a text, plans its table, and writes what that comes to. Of a longer text the front alone is read.
+fn plan_text<R: Read, W: Write>(reader: &mut R, writer: &mut W) -> io::Result<()>
+    ensures { OnOk result (IfSome (R.remaining reader.old)
+        (λ text. Appends (W.contents writer.old) (W.contents writer.new) (output_of text))) }
+{
     let mut text = text_room();
-    let count = intake::fill(&mut rt.stdin(), &mut text)?;
+    let count = intake::fill(reader, &mut text)?;
     let mut output = output_room();
     let length = report::respond(&text[..count], &mut output);
-    rt.write_all(&output[..length])
+    writer.write_all(&output[..length])
+}
+
+// Reads a table from standard input, plans it, and prints the answer.
+fn main(rt: HostRuntime) -> io::Result<()> {
+    plan_text(&mut rt.stdin(), &mut io::writer(&rt))
 }
