@@ -2,9 +2,13 @@
 """The figures of docs/MEASURED.md: lines, processor seconds and memory of each crate, proved from nothing in a fresh clone.
 
 Usage: python3 tools/measure.py     (from the repository; prints a Markdown table)
+
+A check begins with what checks of the same crates have kept in other copies of the repository on this machine. Then it is not from
+nothing, and this ends with an error: remove crates/*/out in those copies.
 """
 import glob
 import os
+import re
 import subprocess
 import sys
 import tempfile
@@ -17,7 +21,7 @@ def crates(root):
         line = line.split("#")[0].strip()
         if line:
             name, rest = line.split(":")
-            deps[name.strip()] = rest.split()
+            deps[name.split()[0]] = rest.split()
     order = []
     while len(order) < len(deps):
         for name in deps:
@@ -34,15 +38,13 @@ def lines(root, name, part, ending):
 
 def check(root, name):
     """Processor seconds and the largest resident set, in MB, of one crate's check; what it depends on is proved already."""
+    folder = os.path.join(root, "crates", name)
     child = os.fork()
     if child == 0:
-        os.chdir(root)
-        quiet = os.open(os.devnull, os.O_WRONLY)
-        os.dup2(quiet, 1)
-        os.dup2(quiet, 2)
         import resource
 
-        ok = subprocess.call(["rt", "check", name]) == 0
+        with open(os.path.join(root, ".said"), "w") as said:
+            ok = subprocess.call(["rt", "check"], cwd=folder, stdout=said, stderr=said) == 0
         used = resource.getrusage(resource.RUSAGE_CHILDREN)
         with open(os.path.join(root, ".used"), "w") as file:
             file.write(f"{used.ru_utime + used.ru_stime} {used.ru_maxrss // 1024}")
@@ -50,6 +52,12 @@ def check(root, name):
     _, status = os.waitpid(child, 0)
     if status:
         sys.exit(f"measure: {name} was not proved")
+    kept = re.search(r"begins with what a check kept in .*", open(os.path.join(root, ".said")).read())
+    if kept:
+        sys.exit(f"measure: {name} {kept[0]}")
+    if os.path.exists(os.path.join(folder, "src", "lib.rt")):
+        # the library for the crates above it, over the work that the check kept
+        subprocess.check_call(["rt", "lib"], cwd=folder, stdout=subprocess.DEVNULL, stderr=subprocess.DEVNULL)
     seconds, peak = open(os.path.join(root, ".used")).read().split()
     return float(seconds), int(peak)
 
