@@ -18,5 +18,4 @@ if [ "$(uname -m)" != x86_64 ]; then
     ln -sf /usr/bin/rustc "$tools/rustc"
     export PATH="$tools:$PATH" RUSTC=/usr/bin/rustc CARGO_BUILD_TARGET=x86_64-unknown-linux-gnu
     export CARGO_TARGET_X86_64_UNKNOWN_LINUX_GNU_LINKER=x86_64-linux-gnu-gcc
-    export EMULATED=yes # the tests take a tenth of their random tables
 fi

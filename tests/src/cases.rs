@@ -20,15 +20,7 @@ pub type Kind = fn(&mut Random) -> Outcome;
 /// The seed of the table that is being tried, for a test whose process may end in the midst of it.
 pub static UNDER_TEST: AtomicU64 = AtomicU64::new(0);
 
-/// So many, and under the emulator, which is some thirty times slower, a tenth of them.
-pub fn share(count: u64) -> u64 {
-    match std::env::var("EMULATED") {
-        Ok(_) => count.div_ceil(10),
-        Err(_) => count,
-    }
-}
-
-/// Runs a share of `count` tables of a kind from a first seed on, or just the one of the variable SEED, and counts what came of them.
+/// Runs `count` tables of a kind from a first seed on, or just the one of the variable SEED, and counts what came of them.
 pub fn each(
     test: &str,
     mut kind: impl FnMut(&mut Random) -> Outcome,
@@ -37,7 +29,7 @@ pub fn each(
 ) -> Tally {
     let (first, count) = match std::env::var("SEED") {
         Ok(seed) => (seed.parse().expect("SEED is no number"), 1),
-        Err(_) => (first, share(count)),
+        Err(_) => (first, count),
     };
     let mut tally = Tally::new();
     for seed in first..first + count {

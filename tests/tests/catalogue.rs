@@ -1,6 +1,6 @@
 //! Catalogues: the two of the examples, wrong ones of every kind, and every sentence and label of right ones.
 
-use panel_tests::cases::{each, share};
+use panel_tests::cases::each;
 use panel_tests::catalogue::{keys, line, text, FIELDS, FIRST_LABEL, LINES, LONGEST, NUMBERS};
 use panel_tests::catalogues::{agree_asked, agree_judge, any, any_asked, Asked, AMPLE};
 use panel_tests::random::Random;
@@ -136,7 +136,7 @@ fn random_catalogues() {
     let tally = each("catalogue", any, 9_000_000, 20_000);
     if std::env::var("SEED").is_err() {
         for name in ["written", "22", "30", "31", "32", "33"] {
-            assert!(tally[name] >= share(300) as usize, "too few {name}: {tally:?}");
+            assert!(tally[name] >= 300, "too few {name}: {tally:?}");
         }
     }
 }

@@ -1,6 +1,6 @@
 //! Editing at the panel: random sequences of edits, areas that somebody damaged, and each rule by itself.
 
-use panel_tests::cases::{each, share, Outcome};
+use panel_tests::cases::{each, Outcome};
 use panel_tests::desk::Desk;
 use panel_tests::edit::Edit;
 use panel_tests::edits::{damaged, few, full, Met};
@@ -124,7 +124,7 @@ fn at_random(
     each("edit", |random| kind(random, &mut met), first, count);
     println!("edit: {met:?}");
     let often =
-        |tally: &BTreeMap<u16, usize>, number| tally.get(number).is_some_and(|&k| k >= share(least as u64) as usize);
+        |tally: &BTreeMap<u16, usize>, number| tally.get(number).is_some_and(|&k| k >= least);
     assert!(!met.edits.contains_key(&5) && !met.plans.contains_key(&5));
     if std::env::var("SEED").is_err() {
         assert!(edits.iter().all(|k| often(&met.edits, k)), "{met:?}");

@@ -1,7 +1,7 @@
 //! Why a table is late: tables worked by hand, those that are refused, and random ones against the model, the search and
 //! planning.
 
-use panel_tests::cases::{each, share};
+use panel_tests::cases::each;
 use panel_tests::panel::{Reason, Row};
 use panel_tests::random::Random;
 use panel_tests::reason::agree_reason;
@@ -242,7 +242,7 @@ fn random_small_tables() {
     let tally = each("reason", small, 11_000_000, 20_000);
     if std::env::var("SEED").is_err() {
         for kind in ["none", "before slot 0", "some rows", "all rows"] {
-            assert!(tally[kind] >= share(1_000) as usize, "an unfair share: {tally:?}");
+            assert!(tally[kind] >= 1_000, "an unfair share: {tally:?}");
         }
     }
 }
@@ -252,7 +252,7 @@ fn random_large_tables() {
     let tally = each("reason", large, 12_000_000, 400);
     if std::env::var("SEED").is_err() {
         assert!(
-            tally["none"] >= share(100) as usize && tally["some rows"] >= share(60) as usize,
+            tally["none"] >= 100 && tally["some rows"] >= 60,
             "an unfair share: {tally:?}"
         );
     }
@@ -263,7 +263,7 @@ fn random_faults() {
     let tally = each("reason", faulty, 13_000_000, 1_000);
     if std::env::var("SEED").is_err() {
         for number in ["accepted", "1", "2", "3", "4", "6", "8", "10", "11"] {
-            assert!(tally[number] >= share(20) as usize, "too few {number}: {tally:?}");
+            assert!(tally[number] >= 20, "too few {number}: {tally:?}");
         }
     }
 }

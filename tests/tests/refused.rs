@@ -1,6 +1,6 @@
 //! Tables that are turned away, and areas of every length around the needed one.
 
-use panel_tests::cases::{each, faulty, share, ANSWERS};
+use panel_tests::cases::{each, faulty, ANSWERS};
 use panel_tests::compare::agree;
 use panel_tests::model::{cells, entries};
 use panel_tests::panel::{self, Answer, Row};
@@ -31,7 +31,7 @@ fn random_faults() {
         assert!(!tally.contains_key("5"), "{tally:?}");
         for number in ANSWERS.into_iter().filter(|&number| number != "5") {
             assert!(
-                tally.get(number).is_some_and(|&k| k >= share(50) as usize),
+                tally.get(number).is_some_and(|&k| k >= 50),
                 "too few {number}: {tally:?}"
             );
         }
