@@ -1,12 +1,12 @@
--- A proved outcome whose answer is flattened is the panel's: `flat-planned`, `flat-reasoned`, `flat-written`,
--- `flat-opened`, `flat-edited` and `flat-put`.
--- The outcome of columns is that of the rows they hold: `held-planned`, and where the rows are lent `loaded-flat`,
--- `loaded-flat-reason` and `loaded-written`.
--- What was parsed, once its rows are stored, is what was read: `parsed-flat`, `flat-fits` and `flat-taken`.
--- Two outcomes that fit one call are equal: `one_answer`, `one-plan` and `one-arrivals` of planning, `one-flat-reason`
--- of asking why a table is late, `one-reading` and `one-rows` of reading, `one-writing` and `one-area` of writing,
--- `one-opening` and `one-edit` of editing, `one-put` of a sentence or a label.
--- `edited-plans-alike`: a table that was edited is planned as the same rows entered afresh.
+-- A proved outcome whose answer is flattened is the panel's: `flat_planned`, `flat_reasoned`, `flat_written`,
+-- `flat_opened`, `flat_edited` and `flat_put`.
+-- The outcome of columns is that of the rows they hold: `held_planned`, and where the rows are lent `loaded_flat`,
+-- `loaded_flat_reason` and `loaded_written`.
+-- What was parsed, once its rows are stored, is what was read: `parsed_flat`, `flat_fits` and `flat_taken`.
+-- Two outcomes that fit one call are equal: `one_answer`, `one_plan` and `one_arrivals` of planning, `one_flat_reason`
+-- of asking why a table is late, `one_reading` and `one_rows` of reading, `one_writing` and `one_area` of writing,
+-- `one_opening` and `one_edit` of editing, `one_put` of a sentence or a label.
+-- `edited_plans_alike`: a table that was edited is planned as the same rows entered afresh.
 -- Assumes nothing.
 use mathlib.Core.Path.{◌≡◌, refl, ◌∙◌, ap, sym}
 use Prim.Native.Nat.{ℕ, ◌≤◌}
