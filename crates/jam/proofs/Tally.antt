@@ -1,6 +1,6 @@
 -- What the definitions count is what the window's theory counts.
 --     how_many_few                       no more pass a test than there are
---     crosses_must, must_crosses         a cell passes `crossesBefore` just where the theory has it cross
+--     crosses_must, must_crosses         a cell passes `crosses_before` just where the theory has it cross
 --     crossing_is                        so the cells that must cross are as many as the theory counts
 -- Assumes nothing.
 use mathlib.Core.Path.{◌≡◌, refl, sym}
@@ -43,7 +43,7 @@ how_many_count d test to from (suc m) =
     omega (arith, test_tally (d m) (test m) (to m) (from m), how_many_count d test to from m)
 
 module _ (T : Traffic) (start : List ℕ) where
-  -- Cell i cannot be at link p for k slots, and must cross it before slot b. `crossesBefore` is that for k = 0.
+  -- Cell i cannot be at link p for k slots, and must cross it before slot b. `crosses_before` is that for k = 0.
   abbrev pub Crosses : (p k b i : ℕ) → Type 0
   Crosses p k b i =
       Must (length start) T.nodes (λ i. T.nodes) (node_of T) (links_from T) (due_of T) (links start) p k b i

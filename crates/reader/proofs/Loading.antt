@@ -1,6 +1,6 @@
 -- The rows read one after the other, as `read_rows` reads them.
 --     Loaded                       i rows are read, and the rest's answer is the whole answer
---     none_loaded, more_loaded, stopped_at, left-over, all_loaded   its laws
+--     none_loaded, more_loaded, stopped_at, left_over, all_loaded   its laws
 -- Assumes nothing.
 use mathlib.Core.Path.{◌≡◌, refl, ◌∙◌, ap, sym}
 use mathlib.Core.List.{List, [], ◌∷◌, ◌++◌, map}

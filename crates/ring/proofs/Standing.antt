@@ -4,7 +4,7 @@
 --     one_link_on         with one link less to go it stands one node on, at (p + 1) mod n
 --     at_destination      with none to go it stands at its destination
 --     distance_ahead, distance_round      a distance without the remainder, short of node 0 and past it
---     full-turn           from a node to itself it is n
+--     full_turn           from a node to itself it is n
 --     away                every distance is 1 to n links, and gone from p it ends at q
 -- Assumes nothing.
 use mathlib.Core.Path.{◌≡◌, refl, ◌∙◌, ap}

@@ -1,5 +1,5 @@
 -- The text and the table say the same.
---     read-back        the text of a table is read as that table
+--     read_back        the text of a table is read as that table
 --     write_back       a text that is read is the text of what was read
 --     read_iff_text    so a text is read exactly if it is the text of a table that fits
 --     written_again    and what was read, written again, gives the same bytes
