@@ -3,7 +3,8 @@
 
 usage: python3 tools/respell.py [--list]      at the top of the repository; --list shows the table and changes nothing
 
-It was run once, after port.py, on the repository as it was written for an older Rattle (docs/PORT.md). What is declared in specs/ and in
+It was run after port.py on the repository as it was written for an older Rattle, and once more when a dash had come to ask for both names in the
+statement (docs/PORT.md); run again it changes nothing. What is declared in specs/ and in
 proofs/*.antt is respelled wherever it is used: specs, proofs, clauses, must-fail edits, and code spans of the documents. Functions of src/, what
 Rattle itself makes and the names of libraries keep their spelling.
 """
@@ -25,7 +26,7 @@ PROSE = set("well-formed on-ring to-go full-turn least-first in-time row-by-row"
 WORDS = set("""length take drop set map get_or append replicate build filled cons nil suc zero zip ltb eqb cond slackOf
 max min mod div mul add sub""".split())
 LIBRARIES = set("mathlib Prim lib native borrow mir denote logic rt seplogic std core memory base numerals".split())
-NAME = r"[^\s(){}.;,@\"«»\[\]|]+"
+NAME = r"[^\s(){}.;,@\"«»\[\]|`]+"
 SIG = re.compile(
     r"(?m)^( *)((?:(?:abbrev|unfoldable|pub|record|data|opaque)\s+)*)(" + NAME + r")((?: \{[^{}\n]*\}| \([^()\n]*\))*) :(?= |$)"
 )
@@ -50,10 +51,10 @@ def snake(part):
 
 
 def table(own):
-    declared, told = collections.OrderedDict(), set()
+    declared, told, stated = collections.OrderedDict(), set(), collections.defaultdict(list)
     for p in own:
-        in_record = None
-        for line in read(p).split("\n"):
+        in_record, lines = None, read(p).split("\n")
+        for k, line in enumerate(lines):
             m = SIG.match(line)
             indent = len(line) - len(line.lstrip(" "))
             if re.match(r"\s*(pub )?record ", line):
@@ -65,6 +66,7 @@ def table(own):
                 declared.setdefault(m[3], set()).add(kind)
                 if "/specs/" in p:
                     told.add(m[3])
+                stated[m[3]].append(set() if "/specs/" in p else statement(lines, k, m))
     # What a dash may join: definitions of specs/, and the libraries' words.
     heads = {n for n in told if len(n) > 2 and "-" not in n and "name" in declared[n]} | WORDS
     new = {}
@@ -76,13 +78,23 @@ def table(own):
             continue
         out = snake(parts[0])
         for a, b in zip(parts, parts[1:]):
-            dash = a in heads and b in heads and kinds == {"name"}
+            dash = a in heads and b in heads and kinds == {"name"} and all({a, b} <= words for words in stated[n])
             out += ("-" if dash else "_") + snake(b)
         out = out.replace("get_d", "get_or")
         if out != n:
             new[n] = out
-    new.update(APART)
+    if any(re.search(r"[a-z0-9][A-Z]", n) for n in new):
+        new.update(APART)
     return declared, new
+
+
+def statement(lines, k, m):
+    """The words of what a declaration says, behind its name."""
+    end = k + 1
+    while end < len(lines) and lines[end].startswith(" " * (len(m[1]) + 4)):
+        end += 1
+    text = lines[k][m.end(3):] + " " + " ".join(lines[k + 1:end])
+    return set(re.findall(NAME, text))
 
 
 def imports(text):

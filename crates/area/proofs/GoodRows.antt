@@ -16,7 +16,7 @@ use lib.ListN.{length, take, drop, take-append-drop}
 use Rattle.lists.specs.Lists.{total}
 use Rattle.table.specs.declared.Row.{Row}
 use Rattle.table.specs.declared.Verdict.TheVariants.{Good, Refused}
-use Rattle.table.specs.Table.{most-length, refuse, row_refusal, judge_rows, lengths, cells_in}
+use Rattle.table.specs.Table.{most_length, refuse, row_refusal, judge_rows, lengths, cells_in}
 use Rattle.table.proofs.Judging.{GoodRow, good_rows, never_good}
 
 -- No row of the list is bad.
@@ -66,7 +66,7 @@ module _ (n : ℕ) where
   good_split i rows g = good_parts (take i rows) (drop i rows) (subst (AllGood n) (sym (take-append-drop i rows)) g)
 
   -- Rows of which none is bad have at most 64 cells each.
-  pub cells_few : (rows : List Row) → AllGood n rows → cells_in rows ≤ most-length * length rows
+  pub cells_few : (rows : List Row) → AllGood n rows → cells_in rows ≤ most_length * length rows
   unfolding AllGood cells_in lengths total
   cells_few [] g = omega arith
   cells_few (r ∷ rows) g = omega (arith, (good_row r g.0).len_most, cells_few rows g.1)

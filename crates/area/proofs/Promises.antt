@@ -9,7 +9,7 @@ use mathlib.Core.List.{List}
 use lib.ListN.{length, get_or}
 use Rattle.lists.specs.Lists.{build, largest}
 use Rattle.lists.proofs.Build.{length-build, get_or_build}
-use Rattle.lists.proofs.Figures.{at_most-largest}
+use Rattle.lists.proofs.Figures.{at_most_largest}
 use Rattle.lists.proofs.FirstPlace.{place_of, not_before, largest_there}
 use Rattle.area.specs.declared.LinkLoad.{LinkLoad}
 use Rattle.area.specs.Area.{busiest_in}
@@ -28,12 +28,12 @@ module _ (loads : List ℕ) where
   busiest_is_most some =
       let there = largest_there loads some in
       let found = place_of (largest loads) loads there.0 there.1 in
-      (found.inside, found.here, at_most-largest loads)
+      (found.inside, found.here, at_most_largest loads)
 
   -- Every lower link has less.
   pub busiest_is_lowest : (p : ℕ) → p < busiest → get_or loads p 0 < (busiest_in loads).load
   unfolding busiest_in
-  busiest_is_lowest p lower = omega (arith, at_most-largest loads p, not_before (largest loads) loads p lower)
+  busiest_is_lowest p lower = omega (arith, at_most_largest loads p, not_before (largest loads) loads p lower)
 
 -- A link of a ring of n that no other has more load than, and every lower one has less.
 pub record Busiest (n : ℕ) (load_of : ℕ → ℕ) (top : LinkLoad) : Type 0 where

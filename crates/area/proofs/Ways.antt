@@ -15,7 +15,7 @@ use borrow.Author.Tests.{ltb-true, ltb-false, leb-true, leb-false, lt-ltb, le-lt
 use lib.Dec.{ltb, leb, leb-suc-suc, leb-suc-zero}
 use Rattle.lists.specs.Lists.{build, total}
 use Rattle.lists.proofs.Build.{build_ext}
-use Rattle.lists.proofs.Sums.{total_both, total-same, total_times}
+use Rattle.lists.proofs.Sums.{total_both, total_same, total_times}
 use Rattle.ring.specs.Ring.{distance}
 use Rattle.ring.proofs.Standing.{one_turn, distance_ahead, distance_round}
 use Rattle.table.specs.declared.Row.{Row}
@@ -113,7 +113,7 @@ below_long (suc n) zero h =
     let never : build n (λ i. below 0 (suc i)) ≡ build n (λ i. 0) =
     build_ext n (λ i. below 0 (suc i)) (λ i. 0) (λ i l. rw (leb-suc-zero (suc i)))
     in
-    omega (arith, ap total never, total-same n 0)
+    omega (arith, ap total never, total_same n 0)
 below_long (suc n) (suc b) h =
     let first : below (suc b) 0 ≡ 1 = rw (lt-ltb 0 (suc b) (omega arith)) in
     let rest : build n (λ i. below (suc b) (suc i)) ≡ build n (below b) =
@@ -174,7 +174,7 @@ module _ (n : ℕ) (r : Row) (good : GoodRow n r) where
           let h : r.dst ≤ r.src = ltb-false r.src r.dst e in
           let sums = both_sums (λ p. 1 + below r.dst p) (round h) in
           let away = distance_round n r.src r.dst h good.src_inside in
-          omega (arith, sums, total_both n (λ p. 1) (below r.dst), total-same n 1, to, away)
+          omega (arith, sums, total_both n (λ p. 1) (below r.dst), total_same n 1, to, away)
 
 -- What one row adds to all loads together: all its cells, on each link of its way.
 way_loads : (n : ℕ) (r : Row)
@@ -191,7 +191,7 @@ way_loads n r good =
 -- All loads together are the sends of all rows.
 sum_of_loads : (n : ℕ) (rows : List Row) → AllGood n rows → total (build n (load n rows)) ≡ sends_of n rows
 unfolding AllGood load sends_of total
-sum_of_loads n [] g = total-same n 0 ∙ omega arith
+sum_of_loads n [] g = total_same n 0 ∙ omega arith
 sum_of_loads n (r ∷ rows) g =
     total_both n (counted n r) (load n rows)
     ∙ omega (arith, way_loads n r (good_row n r g.0), sum_of_loads n rows g.1)

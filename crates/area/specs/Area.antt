@@ -3,16 +3,16 @@
 use Rattle.std.specs.Prelude.{ℕ, ◌+◌, ◌-◌, ◌*◌, min, Bool, cond, ◌||◌, ◌&&◌, List, [], ◌∷◌, ◌++◌, ltb, leb, length, get_or, replicate}
 use Rattle.lists.specs.Lists.{build, largest, first_place}
 use Rattle.table.specs.declared.Row.{Row}
-use Rattle.table.specs.Table.{most-rows, row_numbers, row_by}
+use Rattle.table.specs.Table.{most_rows, row_numbers, row_by}
 use Rattle.area.specs.declared.LinkLoad.{LinkLoad}
 
 -- The most links that a ring may have.
-abbrev pub most-links : ℕ
-most-links = 32
+abbrev pub most_links : ℕ
+most_links = 32
 
 -- How many numbers a row has in an area.
-abbrev pub row-width : ℕ
-row-width = 4
+abbrev pub row_width : ℕ
+row_width = 4
 
 -- Where the loads begin: behind the number of nodes and the number of rows.
 abbrev pub loads_begin : ℕ
@@ -20,15 +20,15 @@ loads_begin = 2
 
 -- Where the rows begin: behind the loads.
 abbrev pub rows_begin : ℕ
-rows_begin = loads_begin + most-links
+rows_begin = loads_begin + most_links
 
 -- Where row i begins, counted from 0.
 abbrev pub row_place : ℕ → ℕ
-row_place i = rows_begin + row-width * i
+row_place i = rows_begin + row_width * i
 
 -- How many numbers an area has.
 abbrev pub room : ℕ
-room = row_place most-rows
+room = row_place most_rows
 
 -- Link p lies on a row's way: from its source up to its destination, round node 0 where that is not above the source.
 unfoldable pub crosses : ℕ → Row → ℕ → Bool
@@ -47,11 +47,11 @@ numbers (r ∷ rows) = row_numbers r ++ numbers rows
 
 -- An area laid out: nodes, number of rows, loads, rows, and what stands behind them.
 unfoldable pub laid : (n : ℕ) (loads : ℕ → ℕ) (rows : List Row) (behind : List ℕ) → List ℕ
-laid n loads rows behind = n ∷ length rows ∷ (build most-links loads ++ (numbers rows ++ behind))
+laid n loads rows behind = n ∷ length rows ∷ (build most_links loads ++ (numbers rows ++ behind))
 
 -- The area of a table: its loads are those of its rows, and zeros stand behind them.
 unfoldable pub area_of : ℕ → List Row → List ℕ
-area_of n rows = laid n (load n rows) rows (replicate (row-width * (most-rows - length rows)) 0)
+area_of n rows = laid n (load n rows) rows (replicate (row_width * (most_rows - length rows)) 0)
 
 -- What an area holds, read place by place.
 abbrev pub nodes_in : List ℕ → ℕ
@@ -71,7 +71,7 @@ rows_in s = build (count_in s) (row_in s)
 
 -- The loads of the ring's links.
 unfoldable pub loads_in : List ℕ → List ℕ
-loads_in s = build (min (nodes_in s) most-links) (load_in s)
+loads_in s = build (min (nodes_in s) most_links) (load_in s)
 
 -- The busiest of a list of loads: the lowest link of those with the largest load, and that load.
 unfoldable pub busiest_in : List ℕ → LinkLoad

@@ -2,9 +2,9 @@
 #![tactic(auto)]
 
 ghost use Rattle.std.specs.Prelude.{◌≡◌, ◌≤◌, ◌<◌, min, length, get_or};
-ghost use Rattle.table.specs.Table.{most-rows};
+ghost use Rattle.table.specs.Table.{most_rows};
 ghost use Rattle.table.specs.Steps.{listed};
-ghost use Rattle.area.specs.Area.{most-links, row-width, room, count_in, row_in, rows_in, loads_in, busiest_in};
+ghost use Rattle.area.specs.Area.{most_links, row_width, room, count_in, row_in, rows_in, loads_in, busiest_in};
 ghost use Rattle.area.specs.Steps.{column_in};
 
 use lists::{first_place, greatest, lower, zeros};
@@ -41,7 +41,7 @@ pub struct LinkLoad {
 
 // One row of an area.
 pub fn row_in(table: &[u16], i: usize) -> Row
-    requires { (length table.now ≡ room) × (i < most-rows) }
+    requires { (length table.now ≡ room) × (i < most_rows) }
     ensures { result ≡ row_in table.now i }
 {
     let at = ROWS_BEGIN + ROW_WIDTH * i;
@@ -62,7 +62,7 @@ pub fn row_count(table: &Area) -> u16
 
 // How many links a ring of so many nodes has.
 fn link_count(nodes: u16) -> usize
-    ensures { result ≡ min nodes most-links }
+    ensures { result ≡ min nodes most_links }
 {
     lower(nodes as usize, MOST_LINKS)
 }
@@ -81,7 +81,7 @@ pub fn link_load(table: &Area, link: Node) -> u16
 
 // The busiest of a list of loads.
 fn busiest_in(loads: &[u16]) -> LinkLoad
-    requires { length loads.now ≤ most-links }
+    requires { length loads.now ≤ most_links }
     ensures { result ≡ busiest_in loads.now }
 {
     let load = greatest(loads);
@@ -103,7 +103,7 @@ pub fn busiest(table: &Area) -> LinkLoad
 
 // One number of every row, by its place in a row.
 fn column_of(table: &[u16], field: usize) -> [u16; MOST_ROWS]
-    requires { (length table.now ≡ room) × (field < row-width) }
+    requires { (length table.now ≡ room) × (field < row_width) }
     ensures { result ≡ column_in field table.now }
 {
     let mut column = zeros();

@@ -1,7 +1,7 @@
 -- A row arrives with its last cell: in the plan of a run that ends with no late cell, it is delivered whole from its
 -- arrival on, and not before.
 --     state_ordered        in the rule's run earlier cells of a row are never behind later ones
---     row-arrives          a row is delivered whole at an instant just where its arrival is no later
+--     row_arrives          a row is delivered whole at an instant just where its arrival is no later
 -- Assumes nothing.
 use mathlib.Core.Path.{◌≡◌, ◌∙◌, ap, sym}
 use mathlib.Core.Logic.{◌↔◌}
@@ -12,9 +12,9 @@ use native.Mathlib.Decide.{ℕ_discrete}
 use lib.ListN.{length, get_or, take}
 use Rattle.lists.specs.Lists.{total}
 use Rattle.lists.proofs.Build.{get_or_build}
-use Rattle.lists.proofs.Figures.{total-more}
+use Rattle.lists.proofs.Figures.{total_more}
 use Rattle.slack.specs.Slack.{state_at, plan_of, delivered_from, arrivals_of, stop_of}
-use Rattle.slack.proofs.Rule.{state-length, state-less}
+use Rattle.slack.proofs.Rule.{state_length, state_less}
 use Rattle.optimal.specs.Schedule.{left_at}
 use Rattle.optimal.proofs.Plan.{plan_state}
 use Rattle.optimal.proofs.Deliveries.{delivered_first, plan_delivers}
@@ -22,7 +22,7 @@ use Rattle.cells.specs.Rows.{Freight, owners, cell_links, cells_left, Delivered}
 use Rattle.cells.specs.Cells.{cell_traffic, row_plan, of_last_cells, row_arrivals}
 use Rattle.cells.specs.Steps.{Laden}
 use Rattle.cells.proofs.Seats.{first_cell, seat, cell_known}
-use Rattle.best.proofs.Order.{links-long, owner_at, seat_owner, Pair, pair, ordered}
+use Rattle.best.proofs.Order.{links_long, owner_at, seat_owner, Pair, pair, ordered}
 use Rattle.best.proofs.Best.{told_state, cell_dues_lem}
 
 module _ (F : Freight) (laden : Laden F) where
@@ -41,17 +41,17 @@ module _ (F : Freight) (laden : Laden F) where
     unfolding first_cell
     last_is =
         let e : total (take (suc i) F.len) ≡ total (take i F.len) + get_or F.len i 0
-        = rw add-one at (total-more F.len i known) in
+        = rw add-one at (total_more F.len i known) in
         rw e (omega arith)
 
     last_owner : get_or (owners F) last 0 ≡ suc i
     last_owner =
         ap (λ c. get_or (owners F) c 0) last_is ∙ owner_at F i (get_or F.len i 0 - 1) known (omega arith)
 
-    pub last-known : last < length (cell_links F)
-    last-known =
+    pub last_known : last < length (cell_links F)
+    last_known =
         let inside = cell_known F.len i (get_or F.len i 0 - 1) known (omega arith) in
-        omega (arith, links-long F, last_is)
+        omega (arith, links_long F, last_is)
 
     -- Every other cell of the row comes before its last.
     before_last : (c : ℕ) → c < total F.len → get_or (owners F) c 0 ≡ suc i → (c ≡ last → ⊥) → c < last
@@ -68,13 +68,13 @@ module _ (F : Freight) (laden : Laden F) where
     last_then_all t gone c l of_row = go (ℕ_discrete c last)
       where
         inside : c < total F.len
-        inside = omega (arith, state-length (cell_traffic F) (cell_links F) t, links-long F)
+        inside = omega (arith, state_length (cell_traffic F) (cell_links F) t, links_long F)
 
         go : Dec (c ≡ last) → togo t c ≡ 0
         go (yes e) = rw e gone
         go (no e) =
             let same = of_row ∙ sym last_owner in
-            let pr = pair F c last (before_last c inside of_row e) (omega (arith, last-known, links-long F)) same in
+            let pr = pair F c last (before_last c inside of_row e) (omega (arith, last_known, links_long F)) same in
             omega (arith, state_ordered t c last pr)
 
     -- The row's arrival is the instant found for its last cell.
@@ -85,7 +85,7 @@ module _ (F : Freight) (laden : Laden F) where
         let arrivals = arrivals_of (cell_traffic F) (cell_links F) slots in
         let found : ℕ → ℕ = λ c. delivered_from (cell_traffic F) (cell_links F) c slots 0 in
         get_or_build (length F.len) (λ i. get_or arrivals (pred (total (take (suc i) F.len))) 0) i 0 known
-        ∙ get_or_build (length (cell_links F)) found last 0 last-known
+        ∙ get_or_build (length (cell_links F)) found last 0 last_known
 
     module _ (slots : ℕ) (dues : (i : ℕ) → i < length F.len → get_or F.due i 0 ≤ slots)
         (on_time : (stop_of (cell_traffic F) (cell_links F) slots).row ≡ 0) where
@@ -104,30 +104,30 @@ module _ (F : Freight) (laden : Laden F) where
       there : togo arrival last ≡ 0
       there =
           let T = cell_traffic F in
-          let found = plan_delivers T (cell_links F) slots (cell_dues_lem laden dues) on_time last last-known in
+          let found = plan_delivers T (cell_links F) slots (cell_dues_lem laden dues) on_time last last_known in
           rw (state_is arrival within) at found.there
 
       not_before : (t : ℕ) → t < arrival → 0 < togo t last
       not_before t l =
           let T = cell_traffic F in
-          let found = plan_delivers T (cell_links F) slots (cell_dues_lem laden dues) on_time last last-known in
+          let found = plan_delivers T (cell_links F) slots (cell_dues_lem laden dues) on_time last last_known in
           rw (state_is t (omega (arith, within))) at (found.not_before t l)
 
       whole_then : (t : ℕ) → Delivered F (state_at (cell_traffic F) (cell_links F) t) i → arrival ≤ t
       unfolding Delivered
       whole_then t whole =
           let inside : last < length (state_at (cell_traffic F) (cell_links F) t)
-          = omega (arith, last-known, state-length (cell_traffic F) (cell_links F) t) in
+          = omega (arith, last_known, state_length (cell_traffic F) (cell_links F) t) in
           by_contra arrival t (λ late. omega (arith, not_before t late, whole last inside last_owner))
 
       -- In the plan, told in rows, the row is delivered whole from its arrival on, and not before.
-      pub row-arrives : (t : ℕ) → t ≤ slots
+      pub row_arrives : (t : ℕ) → t ≤ slots
           → (get_or (row_arrivals F slots) i 0 ≤ t) ↔ Delivered F (cells_left F (row_plan F slots) t) i
-      row-arrives t l =
+      row_arrives t l =
           rw (told_state F laden slots t l) (
             λ late.
                 let less : arrival ≤ t = omega (arith, arrival_is slots) in
-                let gone = state-less (cell_traffic F) (cell_links F) last last-known arrival t less in
+                let gone = state_less (cell_traffic F) (cell_links F) last last_known arrival t less in
                 last_then_all t (omega (arith, there)),
             λ whole. omega (arith, arrival_is slots, whole_then t whole),
           )

@@ -15,8 +15,8 @@ use lib.ListN.{length, get_or, take, drop, get_or-map}
 use Rattle.lists.specs.Lists.{total}
 use Rattle.lists.proofs.Build.{build_ext}
 use Rattle.slack.specs.Slack.{Traffic, OnRing, moved, slot_of, pick, state_at, plan_of, late_row, stop_of}
-use Rattle.slack.proofs.Rule.{Stands, Picked, pick_least, pick-none, slot_entry, plan_length}
-use Rattle.slack.proofs.Rule.{state-length, state_on_ring, state-less}
+use Rattle.slack.proofs.Rule.{Stands, Picked, pick_least, pick_none, slot_entry, plan_length}
+use Rattle.slack.proofs.Rule.{state_length, state_on_ring, state_less}
 use Rattle.slack.proofs.Ending.{stop_first}
 use Rattle.optimal.specs.Schedule.{named_in, Meets}
 use Rattle.optimal.proofs.Plan.{plan_names, plan_state}
@@ -27,8 +27,8 @@ use Rattle.cells.specs.Cells.{cell_traffic, owner_of, told_by, row_plan}
 use Rattle.cells.specs.Steps.{Laden}
 use Rattle.cells.proofs.Seats.{first_cell, Seat, seat, cell_known}
 use Rattle.cells.proofs.Telling.{told_long}
-use Rattle.best.proofs.First.{first_is, first-none}
-use Rattle.best.proofs.Order.{links-long, owner_at, seat_owner, seat_due, laid_on_ring}
+use Rattle.best.proofs.First.{first_is, first_none}
+use Rattle.best.proofs.Order.{links_long, owner_at, seat_owner, seat_due, laid_on_ring}
 use Rattle.best.proofs.Order.{pair, pair_dst, pair_due, same_place, same_move, waits_then, then_waits, same_left}
 use Rattle.best.proofs.Order.{left, slot, next, at_start, left_long, far_behind}
 
@@ -133,9 +133,9 @@ module _ (F : Freight) where
     chosen_earliest : (p n : ℕ) → pick T t state p (length state) ≡ n → earliest F state (owner_of (owners F) n) p ≡ n
     unfolding earliest
     chosen_earliest p zero e =
-        first-none (waits F state (owner_of (owners F) 0) p) (length state) 0 (λ c l m.
+        first_none (waits F state (owner_of (owners F) 0) p) (length state) 0 (λ c l m.
         not_waiting (owner_of (owners F) 0) p c (λ w.
-        pick-none T t state p (length state) e c (omega arith) (waits_then F state (owner_of (owners F) 0) p c w).1))
+        pick_none T t state p (length state) e c (omega arith) (waits_then F state (owner_of (owners F) 0) p c w).1))
     chosen_earliest p (suc c) e =
         first_is (waits F state row p) (length state) 0 c
         (record {
@@ -186,7 +186,7 @@ module _ (F : Freight) where
       carries : carried F (told_by (owners F) (slot_of T t state)) state ≡ slot_of T t state
       carries =
           told_carries t state (state_on_ring T (cell_links F) (laid_on_ring F laden) t)
-          (state-length T (cell_links F) t ∙ links-long F)
+          (state_length T (cell_links F) t ∙ links_long F)
 
       told : List ℕ
       told = told_by (owners F) plan
@@ -250,7 +250,7 @@ module _ {F : Freight} {slots : ℕ} (laden : Laden F)
   -- No cell is due after the last slot.
   pub cell_dues_lem : (c : ℕ) → c < length (cell_links F) → get_or (cell_traffic F).due c 0 ≤ slots
   cell_dues_lem c l =
-      let s = seat F.len c (omega (arith, links-long F)) in
+      let s = seat F.len c (omega (arith, links_long F)) in
       omega (arith, seat_due F s, dues s.row s.known)
 
   -- Where some schedule of rows meets the table, no cell of the rule's run is late at any instant.
@@ -268,15 +268,15 @@ module _ {F : Freight} {slots : ℕ} (laden : Laden F)
       → Delivered F (state_at (cell_traffic F) (cell_links F) (get_or F.due i 0)) i
   unfolding Delivered Meets
   delivered_by_due on_time i known c l of_row =
-      let inside : c < length (cell_links F) = omega (arith, state-length T (cell_links F) due) in
+      let inside : c < length (cell_links F) = omega (arith, state_length T (cell_links F) due) in
       let (t, in_time, done) = (plan_is_schedule ring cell_dues_lem on_time).meets c inside in
-      let s = seat F.len c (omega (arith, links-long F)) in
+      let s = seat F.len c (omega (arith, links_long F)) in
       let row : s.row ≡ i = omega (arith, seat_owner F s) in
       let same : get_or F.due s.row 0 ≡ due = ap (λ k. get_or F.due k 0) row in
       let early : t ≤ due = omega (arith, seat_due F s) in
       let gone : get_or (state_at T (cell_links F) t) c 0 ≡ 0
       = rw (plan_state T (cell_links F) slots t (omega (arith, dues i known))) at done in
-      omega (arith, state-less T (cell_links F) c inside t due early)
+      omega (arith, state_less T (cell_links F) c inside t due early)
     where
       T : Traffic
       T = cell_traffic F

@@ -38,12 +38,12 @@ module _ (n : ℕ) (dst due due' : List ℕ) where
     same_place i = refl
 
     -- the same test for one row more
-    same-better : (p best i : ℕ) → i < length left → ((b : ℕ) → best ≡ suc b → (b < length left) × (0 < get_or left b 0))
+    same_better : (p best i : ℕ) → i < length left → ((b : ℕ) → best ≡ suc b → (b < length left) × (0 < get_or left b 0))
         → better before t left p best i ≡ better after t' left p best i
-    same-better p zero i known some =
+    same_better p zero i known some =
         better_than_none before t left p i
         ∙ ap (λ q. ltb 0 (get_or left i 0) && (eqb q p && true)) (same_place i) ∙ sym (better_than_none after t' left p i)
-    same-better p (suc b) i known some =
+    same_better p (suc b) i known some =
         better_than before t left p b i
         ∙ ap (λ q. ltb 0 (get_or left i 0) && (eqb q p && less due left i b)) (same_place i)
         ∙ go (ltb 0 (get_or left i 0)) refl ∙ sym (better_than after t' left p b i)
@@ -58,10 +58,10 @@ module _ (n : ℕ) (dst due due' : List ℕ) where
             let (there, under_way_lem) = some b refl in
             ap (λ y. here && y) (agree i b known there (ltb-true 0 (get_or left i 0) e) under_way_lem)
 
-    same-pick : (p i : ℕ) → i ≤ length left → pick before t left p i ≡ pick after t' left p i
+    same_pick : (p i : ℕ) → i ≤ length left → pick before t left p i ≡ pick after t' left p i
     unfolding pick
-    same-pick p zero l = refl
-    same-pick p (suc i) l = go (same-pick p i (omega arith))
+    same_pick p zero l = refl
+    same_pick p (suc i) l = go (same_pick p i (omega arith))
       where
         stands : (b : ℕ) → pick before t left p i ≡ suc b → (b < length left) × (0 < get_or left b 0)
         stands b e =
@@ -76,13 +76,13 @@ module _ (n : ℕ) (dst due due' : List ℕ) where
 
         go : best ≡ best'
             → cond (better before t left p best i) (suc i) best ≡ cond (better after t' left p best' i) (suc i) best'
-        go e = rw (same-better p best i l stands, e)
+        go e = rw (same_better p best i l stands, e)
 
     pub same_slot : slot_of before t left ≡ slot_of after t' left
     unfolding slot_of
     same_slot =
         build_ext n (λ p. pick before t left p (length left)) (λ p. pick after t' left p (length left))
-        (λ p l. same-pick p (length left) (omega arith))
+        (λ p l. same_pick p (length left) (omega arith))
 
     same_move : (slot : List ℕ) → moved before slot left ≡ moved after slot left
     unfolding moved place

@@ -1,7 +1,7 @@
 -- The first number that passes a test.
 --     first_then        what is told of the number that is found
 --     first_is          the number that passes and has none before it is found
---     first-none        where none passes, none is found
+--     first_none        where none passes, none is found
 -- Assumes nothing.
 use mathlib.Core.Path.{◌≡◌, refl, ◌∙◌, ap, sym}
 use Prim.Native.Nat.{ℕ, zero, suc, ◌+◌, ◌≤◌, ◌<◌}
@@ -62,8 +62,8 @@ module _ (test : ℕ → Bool) where
             none_before = λ j k l. f.none_before j (omega arith) l;
           }))
 
-  pub first-none : (m i : ℕ) → ((j : ℕ) → i ≤ j → j < i + m → test j ≡ false) → first_that test m i ≡ 0
+  pub first_none : (m i : ℕ) → ((j : ℕ) → i ≤ j → j < i + m → test j ≡ false) → first_that test m i ≡ 0
   unfolding first_that
-  first-none zero i h = refl
-  first-none (suc m) i h =
-      rw (h i (omega arith) (omega arith)) (first-none m (suc i) (λ j k l. h j (omega arith) (omega arith)))
+  first_none zero i h = refl
+  first_none (suc m) i h =
+      rw (h i (omega arith) (omega arith)) (first_none m (suc i) (λ j k l. h j (omega arith) (omega arith)))

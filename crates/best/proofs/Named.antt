@@ -1,5 +1,5 @@
 -- Refusal 9 names a row: that of the lowest late cell is the lowest row with a late cell.
---     late_names-lowest     at any instant, in any state
+--     late_names_lowest     at any instant, in any state
 --     owner_named           every cell has an owner
 --     row_stop_none         a run ends with no late row just where it ends with no late cell
 -- Assumes nothing.
@@ -19,14 +19,14 @@ use Rattle.cells.specs.Cells.{cell_traffic, owner_of, end_by, row_stop, RowLate}
 use Rattle.cells.specs.Steps.{AboveZero}
 use Rattle.cells.proofs.Seats.{Seat, seat, rows_apart}
 use Rattle.cells.proofs.Telling.{cell_named, none_named, stop_cell}
-use Rattle.best.proofs.Order.{owners-long, links-long, seat_owner}
+use Rattle.best.proofs.Order.{owners_long, links_long, seat_owner}
 
-pub late_names-lowest : (F : Freight) (t : ℕ) (left : List ℕ) → length left ≡ total F.len
+pub late_names_lowest : (F : Freight) (t : ℕ) (left : List ℕ) → length left ≡ total F.len
     → (c : ℕ) → late_row (cell_traffic F) t left ≡ suc c
     → (i : ℕ) × (owner_of (owners F) (suc c) ≡ suc i) × (i < length F.len) × RowLate F t left i
     × ((j : ℕ) → j < i → RowLate F t left j → ⊥)
 unfolding RowLate owner_of
-late_names-lowest F t left long c e =
+late_names_lowest F t left long c e =
     (s.row, seat_owner F s, s.known, (c, low.inside, seat_owner F s, low.late), none)
   where
     low : LowestLate (cell_traffic F) t left c
@@ -45,7 +45,7 @@ late_names-lowest F t left long c e =
 -- Every cell has an owner.
 pub owner_named : (F : Freight) → AboveZero (owners F)
 owner_named F c l =
-    let s = seat F.len c (omega (arith, owners-long F)) in
+    let s = seat F.len c (omega (arith, owners_long F)) in
     omega (arith, seat_owner F s)
 
 -- A run ends with no late row just where it ends with no late cell.
@@ -65,6 +65,6 @@ row_stop_none F slots = (
         omega (
           arith,
           stop_cell (cell_traffic F) (cell_links F) slots,
-          owners-long F,
-          links-long F,
+          owners_long F,
+          links_long F,
         )

@@ -30,21 +30,21 @@ use Rattle.cells.proofs.Seats.{first_cell, per_cell_length, per_cell_entry, Seat
 -- ---- what is said of a cell
 
 module _ (F : Freight) where
-  pub owners-long : length (owners F) ≡ total F.len
+  pub owners_long : length (owners F) ≡ total F.len
   unfolding owners owners_of
-  owners-long = per_cell_length F.len (λ i j. suc i)
+  owners_long = per_cell_length F.len (λ i j. suc i)
 
-  pub links-long : length (cell_links F) ≡ total F.len
+  pub links_long : length (cell_links F) ≡ total F.len
   unfolding cell_links laid_out
-  links-long = per_cell_length F.len (λ i j. get_or F.links i 0)
+  links_long = per_cell_length F.len (λ i j. get_or F.links i 0)
 
   dst_long : length (cell_traffic F).dst ≡ total F.len
   unfolding cell_traffic laid_out
   dst_long = per_cell_length F.len (λ i j. get_or F.dst i 0)
 
-  pub due-long : length (cell_traffic F).due ≡ total F.len
+  pub due_long : length (cell_traffic F).due ≡ total F.len
   unfolding cell_traffic cell_dues dues_of
-  due-long = per_cell_length F.len (λ i j. get_or F.due i 0 - (get_or F.len i 0 - suc j))
+  due_long = per_cell_length F.len (λ i j. get_or F.due i 0 - (get_or F.len i 0 - suc j))
 
   module _ (i j : ℕ) (known : i < length F.len) (in_row : j < get_or F.len i 0) where
     pub owner_at : get_or (owners F) (first_cell F.len i + j) 0 ≡ suc i
@@ -83,10 +83,10 @@ module _ (F : Freight) where
   laid_on_ring laden =
       record {
         some_node = unfold cell_traffic in laden.some_node;
-        dst_each = dst_long ∙ sym links-long;
-        due_each = due-long ∙ sym links-long;
-        dst_inside = λ c l. dst_in c (seat F.len c (rw links-long at l));
-        left_inside = λ c l. left_in c (seat F.len c (rw links-long at l));
+        dst_each = dst_long ∙ sym links_long;
+        due_each = due_long ∙ sym links_long;
+        dst_inside = λ c l. dst_in c (seat F.len c (rw links_long at l));
+        left_inside = λ c l. left_in c (seat F.len c (rw links_long at l));
       }
     where
       dst_in : (c : ℕ) → Seat F.len c → get_or (cell_traffic F).dst c 0 < (cell_traffic F).nodes
@@ -285,7 +285,7 @@ module _ (F : Freight) (laden : Laden F) (schedule : List ℕ) where
   left_on_ring = run_on_ring (cell_traffic F) left slot next (rw at_start (laid_on_ring F laden))
 
   pub left_long : (t : ℕ) → length (left t) ≡ total F.len
-  left_long t = run_length (cell_traffic F) left slot next t ∙ ap length at_start ∙ links-long F
+  left_long t = run_length (cell_traffic F) left slot next t ∙ ap length at_start ∙ links_long F
 
   -- a state in which the cells keep their order leads to one that lies behind it
   one_slot : (t : ℕ) → Ordered F (left t) (left_on_ring t)

@@ -3,7 +3,7 @@
 -- a run that is looked at so ends at the same cell and instant.
 --     uncut                 with k slots more no due slot of a cell is cut
 --     same_late             the same cell is late at every instant, in any state
---     same-ending           and the run ends at the same cell, k instants later
+--     same_ending           and the run ends at the same cell, k instants later
 -- Assumes nothing.
 use mathlib.Core.Path.{◌≡◌, refl, ◌∙◌, ap, sym}
 use Prim.Native.Nat.{ℕ, zero, suc, ◌+◌, ◌-◌, ◌≤◌, ◌<◌}
@@ -97,13 +97,13 @@ module _ (F : Freight) (k : ℕ) (enough : Enough k F) where
             omega (arith, shift (seat_of c l) (omega arith)))
 
   -- The run ends at the same cell and instant, with k added.
-  pub same-ending : (m t : ℕ) (left : List ℕ) → length left ≡ total F.len
+  pub same_ending : (m t : ℕ) (left : List ℕ) → length left ≡ total F.len
       → ((stop_from T m t left).row ≡ (stop_from T' m (k + t) left).row)
       × (k + (stop_from T m t left).slot.0 ≡ (stop_from T' m (k + t) left).slot.0)
   unfolding stop_from
-  same-ending zero t left long = (same_late t left long, refl)
-  same-ending (suc m) t left long =
-      go (any_under_way left && eqb (late_row T t left) 0) refl (same-ending m (suc t) (moved T (slot_of T t left) left))
+  same_ending zero t left long = (same_late t left long, refl)
+  same_ending (suc m) t left long =
+      go (any_under_way left && eqb (late_row T t left) 0) refl (same_ending m (suc t) (moved T (slot_of T t left) left))
     where
       next : List ℕ
       next = moved T (slot_of T t left) left

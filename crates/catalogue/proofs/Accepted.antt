@@ -20,7 +20,7 @@ use Rattle.lists.proofs.Truth.{differ}
 use Rattle.catalogue.specs.Catalogue.{numbers, fields, keys, Distinct, IsCatalogue, lines_verdict, strings_in}
 use Rattle.catalogue.specs.Catalogue.{labels_in, first_repeat, repeated_line, after_lines, verdict_on}
 use Rattle.catalogue.proofs.Keys.{key_plain, keys_all}
-use Rattle.catalogue.proofs.Cutting.{AllPlain, strings_counted, lines_stand, lines-found}
+use Rattle.catalogue.proofs.Cutting.{AllPlain, strings_counted, lines_stand, lines_found}
 use Rattle.catalogue.proofs.Labels.{distinct_none, none_distinct}
 use Rattle.catalogue.proofs.Strings.{labels_long}
 
@@ -81,7 +81,7 @@ module _ (text : List ℕ) where
   module _ (c : IsCatalogue text) where
     abbrev read_back : (lines_verdict keys 0 text ≡ Good) × (strings_in keys text ≡ c.strings)
     read_back =
-        let found = lines-found keys c.strings 0 plain_keys c.counted c.each in
+        let found = lines_found keys c.strings 0 plain_keys c.counted c.each in
         (ap (lines_verdict keys 0) c.so ∙ found.0, ap (strings_in keys) c.so ∙ found.1)
 
     -- The strings that sentences and labels are made of are those of the lines.

@@ -1,9 +1,9 @@
 -- The lines of a catalogue cut from a text and put together again.
 --     good_line         a line that nothing is wrong with is its key, a string and one line feed
---     line-found        such a line is found, with its string and what stands behind it
+--     line_found        such a line is found, with its string and what stands behind it
 --     good_split        such a catalogue's first line and the rest
 --     lines_stand       lines that nothing is wrong with are the text of their strings
---     lines-found       the text of strings has lines that nothing is wrong with, and those strings
+--     lines_found       the text of strings has lines that nothing is wrong with, and those strings
 --     strings_counted   as many strings as keys
 -- Assumes nothing.
 use mathlib.Core.Path.{◌≡◌, refl, ◌∙◌, ap, sym}
@@ -126,10 +126,10 @@ module _ (key : List ℕ) (plain : no_feed key ≡ true) where
           }
 
   -- The line of a key and a string is found, with its string and what stands behind it.
-  line-found : (s r : List ℕ) → is_string s ≡ true
+  line_found : (s r : List ℕ) → is_string s ≡ true
       → let t = key ++ (s ++ (line_feed ∷ r)) in (line_refusal key t ≡ 0) × (string_at key t ≡ s) × (behind_line t ≡ r)
   unfolding line_refusal string_at
-  line-found s r good =
+  line_found s r good =
       let told = string_good s good in
       let found = feed_found (key ++ s) r (plain_behind key s plain ∙ told.1) in
       let behind = s ++ (line_feed ∷ r) in
@@ -183,15 +183,15 @@ lines_stand (k ∷ ks) above text plain e =
     each first others (suc i) h = others i (omega arith)
 
 -- The text of strings has lines that nothing is wrong with, and those strings.
-pub lines-found : (ks ss : List (List ℕ)) (above : ℕ) → AllPlain ks → length ss ≡ length ks → AllStrings ss
+pub lines_found : (ks ss : List (List ℕ)) (above : ℕ) → AllPlain ks → length ss ≡ length ks → AllStrings ss
     → (lines_verdict ks above (text_of ks ss) ≡ Good) × (strings_in ks (text_of ks ss) ≡ ss)
 unfolding lines_verdict text_of strings_in
-lines-found [] [] above plain e good = (refl, refl)
-lines-found [] (s ∷ ss) above plain e good = absurd (omega (arith, e))
-lines-found (k ∷ ks) [] above plain e good = absurd (omega (arith, e))
-lines-found (k ∷ ks) (s ∷ ss) above plain e good =
-    let found = line-found k (plain 0 (omega arith)) s (text_of ks ss) (good 0 (omega arith)) in
+lines_found [] [] above plain e good = (refl, refl)
+lines_found [] (s ∷ ss) above plain e good = absurd (omega (arith, e))
+lines_found (k ∷ ks) [] above plain e good = absurd (omega (arith, e))
+lines_found (k ∷ ks) (s ∷ ss) above plain e good =
+    let found = line_found k (plain 0 (omega arith)) s (text_of ks ss) (good 0 (omega arith)) in
     let plain-on : AllPlain ks = λ i h. plain (suc i) (omega arith) in
     let good-on : AllStrings ss = λ i h. good (suc i) (omega arith) in
-    let more = lines-found ks ss (suc above) plain-on (omega (arith, e)) good-on in
+    let more = lines_found ks ss (suc above) plain-on (omega (arith, e)) good-on in
     (rw (found.0, found.2) more.0, rw (found.1, found.2, more.1))

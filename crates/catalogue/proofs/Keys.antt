@@ -19,7 +19,7 @@ use lib.ListN.{length, get_or, take, get_or-append}
 use lib.Seq.{get_or-append-add}
 use Rattle.lists.specs.Lists.{largest}
 use Rattle.lists.proofs.Build.{get_or_build}
-use Rattle.lists.proofs.Figures.{at_most-largest}
+use Rattle.lists.proofs.Figures.{at_most_largest}
 use Rattle.text.specs.Text.{width, last_digits, numeral, starts}
 use Rattle.lists.proofs.Truth.{differ}
 use Rattle.catalogue.specs.declared.Key.{Key}
@@ -41,7 +41,7 @@ unfolding largest
 most = refl
 
 pub number_small : (i : ℕ) → get_or numbers i 0 < 100
-number_small i = omega (arith, most, at_most-largest numbers i)
+number_small i = omega (arith, most, at_most_largest numbers i)
 
 -- an entry of a list of keys
 key_at_lem : (f : ℕ → List ℕ) (xs : List ℕ) (i : ℕ) → i < length xs → get_or (map f xs) i [] ≡ f (get_or xs i 0)
@@ -49,8 +49,8 @@ key_at_lem f [] i h = absurd (not-suc-le-zero h)
 key_at_lem f (x ∷ xs) zero h = refl
 key_at_lem f (x ∷ xs) (suc i) h = key_at_lem f xs i (le_of_suc-le-suc h)
 
-keys-long : length (map (key_of 114) numbers) ≡ length numbers
-keys-long = refl
+keys_long : length (map (key_of 114) numbers) ≡ length numbers
+keys_long = refl
 
 pub answer_key : (i : ℕ) → i < length numbers → key_of 114 (get_or numbers i 0) ≡ get_or keys i []
 unfolding keys
@@ -64,7 +64,7 @@ field_at j h = get_or_build (length fields) suc j 0 h
 pub field_key : (i : ℕ) → length numbers ≤ i → i < lines → key_of 102 (i - length numbers + 1) ≡ get_or keys i []
 unfolding keys
 field_key i l h =
-    let sum : i ≡ length (map (key_of 114) numbers) + (i - length numbers) = omega (arith, keys-long) in
+    let sum : i ≡ length (map (key_of 114) numbers) + (i - length numbers) = omega (arith, keys_long) in
     let one : suc (i - length numbers) ≡ i - length numbers + 1 = omega arith in
     let here = get_or-append-add (map (key_of 114) numbers) (map (key_of 102) fields) (i - length numbers) [] in
     let number = field_at (i - length numbers) (omega arith) ∙ one in

@@ -35,10 +35,10 @@ same_self [] = refl
 same_self (x ∷ a) = rw (eq-eqb x x refl) (same_self a)
 
 -- A string that no entry equals isn't among them, and one that isn't among them equals none.
-none-among : (s : List ℕ) (ts : List (List ℕ)) → ((i : ℕ) → i < length ts → get_or ts i [] ≡ s → ⊥) → among s ts ≡ false
+none_among : (s : List ℕ) (ts : List (List ℕ)) → ((i : ℕ) → i < length ts → get_or ts i [] ≡ s → ⊥) → among s ts ≡ false
 unfolding among
-none-among s [] other = refl
-none-among s (t ∷ ts) other = go (same s t) refl (none-among s ts (λ i h. other (suc i) (omega arith)))
+none_among s [] other = refl
+none_among s (t ∷ ts) other = go (same s t) refl (none_among s ts (λ i h. other (suc i) (omega arith)))
   where
     go : (b : Bool) → same s t ≡ b → among s ts ≡ false → (b || among s ts) ≡ false
     go true f rest = absurd (other 0 (omega arith) (sym (same_true s t f)))
@@ -84,7 +84,7 @@ module _ (labels : List (List ℕ)) where
   -- Labels of which no two are equal have none that repeats an earlier one.
   pub distinct_none : Distinct labels → first_repeat labels (length labels) 0 ≡ 0
   distinct_none d =
-      none_repeats (length labels) 0 (λ j l h. none-among (get_or labels j []) (take j labels) (λ i u q. other j h i u q))
+      none_repeats (length labels) 0 (λ j l h. none_among (get_or labels j []) (take j labels) (λ i u q. other j h i u q))
     where
       other : (j : ℕ) → j < 0 + length labels → (i : ℕ) → i < length (take j labels)
           → get_or (take j labels) i [] ≡ get_or labels j [] → ⊥

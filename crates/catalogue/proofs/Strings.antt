@@ -1,5 +1,5 @@
 -- The strings of a catalogue: compared, found, and judged after all lines.
---     same-long, same_differ, same_next, same_end      two strings compared byte by byte
+--     same_long, same_differ, same_next, same_end      two strings compared byte by byte
 --     each_good, all_ended, string_at_lem, string_span     the lines and strings of a catalogue without a bad line
 --     labels_long, label_at, labels_told               its labels are its last strings
 --     among_here, among_next, among_all, among_end     a string sought among those in front of it
@@ -34,12 +34,12 @@ use Rattle.catalogue.proofs.Cutting.{good_split, good_line, string_good, length_
 use Rattle.catalogue.proofs.Lines.{ended_short, good_is_ended, string_long}
 
 -- Lists of different lengths differ.
-pub same-long : (a b : List ℕ) → (length a ≡ length b → ⊥) → same a b ≡ false
+pub same_long : (a b : List ℕ) → (length a ≡ length b → ⊥) → same a b ≡ false
 unfolding same
-same-long [] [] d = absurd (d refl)
-same-long [] (y ∷ b) d = refl
-same-long (x ∷ a) [] d = refl
-same-long (x ∷ a) (y ∷ b) d = go (eqb x y) (same-long a b (λ e. d (ap suc e)))
+same_long [] [] d = absurd (d refl)
+same_long [] (y ∷ b) d = refl
+same_long (x ∷ a) [] d = refl
+same_long (x ∷ a) (y ∷ b) d = go (eqb x y) (same_long a b (λ e. d (ap suc e)))
   where
     go : (t : Bool) → same a b ≡ false → t && same a b ≡ false
     go true e = e

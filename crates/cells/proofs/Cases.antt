@@ -20,7 +20,7 @@ use Rattle.cells.specs.Cells.{dues_of, cell_dues, cell_traffic, owner_of, told_b
 use Rattle.cells.specs.Cells.{end_by, row_stop, of_last_cells, row_arrivals}
 use Rattle.cells.specs.Looks.{looks_to, looks_of, row_looks}
 use Rattle.cells.proofs.Tests.{follows, holds_decided, delivered_decided}
-use Rattle.cells.proofs.Tests.{legal-rows_decided, meets-rows_decided, row_schedule_decided}
+use Rattle.cells.proofs.Tests.{legal_rows_decided, meets_rows_decided, row_schedule_decided}
 
 -- A row, source > destination, length / due slot.
 record Row : Type 0 where
@@ -103,10 +103,10 @@ Each (c ∷ cs) = AsSaid c × Each cs
 
 -- What is computed of a case's list.
 abbrev legality : (c : Case) → Dec (LegalRows (freight_of c) (slots_of c) c.schedule)
-legality c = legal-rows_decided (freight_of c) (slots_of c) c.schedule
+legality c = legal_rows_decided (freight_of c) (slots_of c) c.schedule
 
 abbrev meeting : (c : Case) → Dec (MeetsRows (freight_of c) c.schedule)
-meeting c = meets-rows_decided (freight_of c) c.schedule
+meeting c = meets_rows_decided (freight_of c) c.schedule
 
 abbrev wholeness : (c : Case) → Dec (RowSchedule (freight_of c) (slots_of c) c.schedule)
 wholeness c = row_schedule_decided (freight_of c) (slots_of c) c.schedule
@@ -126,7 +126,7 @@ row_schedules_computed : map computed cases ≡ cases
 unfolding row case cases computed decide largest distance standing under_way place moved named_in first_that per_cell
     owners_of owners laid_out cell_links road waits earliest carried cells_left ℕ_discrete dec_le dec_lt find both_decided
     alike all_below row_named_lem all_three some_below follows holds_decided delivered_decided
-    legal-rows_decided meets-rows_decided row_schedule_decided
+    legal_rows_decided meets_rows_decided row_schedule_decided
 row_schedules_computed = refl
 
 row_schedules_as_said : Each cases

@@ -18,7 +18,7 @@ use borrow.Rule.Slice.PartMut.{Post-is}
 use lib.Seq.{length-take-le, take-length, take_at, drop-append-add, drop-drop}
 use Rattle.lists.specs.Lists.{build, total}
 use Rattle.lists.proofs.Build.{build_ext}
-use Rattle.lists.proofs.Filling.{filled, filled_more, filled-whole}
+use Rattle.lists.proofs.Filling.{filled, filled_more, filled_whole}
 use Rattle.cells.specs.Rows.{per_cell}
 use Rattle.cells.specs.Cells.{of_last_cells}
 use Rattle.cells.specs.Steps.{falling, written, AboveZero}
@@ -40,10 +40,10 @@ writing_none f before first inside =
     record { from = omega arith; inside = inside; long = refl; done = rw (none, take-append-drop first before) }
 
 -- a store behind the seam of two lists
-set-append-add : (xs ys : List ℕ) (k v : ℕ) → set (xs ++ ys) (length xs + k) v ≡ xs ++ set ys k v
-set-append-add [] ys k v = ap (λ n. set ys n v) (zero-add k)
-set-append-add (x ∷ xs) ys k v =
-    ap (λ n. set (x ∷ (xs ++ ys)) n v) (suc-add (length xs) k) ∙ ap (λ r. x ∷ r) (set-append-add xs ys k v)
+set_append_add : (xs ys : List ℕ) (k v : ℕ) → set (xs ++ ys) (length xs + k) v ≡ xs ++ set ys k v
+set_append_add [] ys k v = ap (λ n. set ys n v) (zero-add k)
+set_append_add (x ∷ xs) ys k v =
+    ap (λ n. set (x ∷ (xs ++ ys)) n v) (suc-add (length xs) k) ∙ ap (λ r. x ∷ r) (set_append_add xs ys k v)
 
 module _ {f : ℕ → ℕ} {before : List ℕ} {first c : ℕ} {cells : List ℕ} (h : Writing f before first c cells) where
   pub writing_more : c < length before → (v : ℕ) → v ≡ f (c - first) → Writing f before first (c + 1) (set cells c v)
@@ -70,7 +70,7 @@ module _ {f : ℕ → ℕ} {before : List ℕ} {first c : ℕ} {cells : List ℕ
       stored : set (front ++ filled f rest (c - first)) c (f (c - first)) ≡ front ++ filled f rest (c + 1 - first)
       stored =
           ap (λ n. set (front ++ filled f rest (c - first)) n (f (c - first))) place
-          ∙ set-append-add front (filled f rest (c - first)) (c - first) (f (c - first))
+          ∙ set_append_add front (filled f rest (c - first)) (c - first) (f (c - first))
           ∙ ap (λ r. front ++ r) (filled_more f rest (c - first) (omega (arith, h.from, length-drop first before)))
           ∙ ap (λ n. front ++ filled f rest n) more
 
@@ -229,4 +229,4 @@ module _ {len cells before : List ℕ} {i next : ℕ} {rows : List ℕ}
   unfolding of_last_cells
   gathering_all l =
       h.gathered
-      ∙ filled-whole (last_of len cells) before i (length len) (omega (arith, h.known, h.room)) h.room
+      ∙ filled_whole (last_of len cells) before i (length len) (omega (arith, h.known, h.room)) h.room

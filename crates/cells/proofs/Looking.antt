@@ -17,9 +17,9 @@ use lib.Dec.{eqb, ltb}
 use lib.ListN.{length, get_or}
 use Rattle.lists.specs.Lists.{build, total}
 use Rattle.lists.proofs.Build.{build_ext}
-use Rattle.lists.proofs.Sums.{total_both, total-same}
+use Rattle.lists.proofs.Sums.{total_both, total_same}
 use Rattle.slack.specs.Slack.{Traffic, under_way, state_at, delivered_from, arrivals_of, stop_of}
-use Rattle.slack.proofs.Rule.{state-length, state-less, none_under_way}
+use Rattle.slack.proofs.Rule.{state_length, state_less, none_under_way}
 use Rattle.slack.proofs.Ending.{stop_first, stop_delivered}
 use Rattle.optimal.specs.Schedule.{busy}
 use Rattle.optimal.proofs.Deliveries.{First, delivered_first}
@@ -31,10 +31,10 @@ unfolding busy total
 busy_sum [] = refl
 busy_sum (x ∷ xs) = omega (arith, busy_sum xs)
 
-busy-most : (xs : List ℕ) → busy xs ≤ length xs
+busy_most : (xs : List ℕ) → busy xs ≤ length xs
 unfolding busy
-busy-most [] = omega arith
-busy-most (x ∷ xs) = omega (arith, busy-most xs, one (ltb 0 x))
+busy_most [] = omega arith
+busy_most (x ∷ xs) = omega (arith, busy_most xs, one (ltb 0 x))
   where
     one : (b : Bool) → cond b 1 0 ≤ 1
     one true = omega arith
@@ -57,12 +57,12 @@ module _ (T : Traffic) (start : List ℕ) where
   -- The looks at the first t instants, summed up over the cells.
   pub looks_by_cells : (t : ℕ) → looks_to T start t ≡ total (build (length start) (seen t))
   unfolding looks_to seen under_way
-  looks_by_cells zero = omega (arith, total-same (length start) 0, mul-zero (length start))
+  looks_by_cells zero = omega (arith, total_same (length start) 0, mul-zero (length start))
   looks_by_cells (suc t) =
       omega (
         arith,
         looks_by_cells t,
-        rw (state-length T start t) at (busy_sum (state_at T start t)),
+        rw (state_length T start t) at (busy_sum (state_at T start t)),
         total_both (length start) (seen t) (λ i. cond (ltb 0 (togo t i)) 1 0),
       )
 
@@ -81,7 +81,7 @@ module _ (T : Traffic) (start : List ℕ) where
       rw e (seen_waiting i d under_way_lem)
   later i d (suc k) known under_way_lem there =
       let e : d + suc k ≡ suc (d + k) = omega arith in
-      let gone : togo (d + k) i ≤ 0 = omega (arith, state-less T start i known d (d + k) (omega arith)) in
+      let gone : togo (d + k) i ≤ 0 = omega (arith, state_less T start i known d (d + k) (omega arith)) in
       rw (e, le-ltb 0 (togo (d + k) i) gone) (omega (arith, later i d k known under_way_lem there))
 
   -- One that is delivered at d, and not before, is looked at d times.
@@ -142,4 +142,4 @@ looks_bounded T start slots =
     up_to : (t : ℕ) → looks_to T start t ≤ length start * t
     up_to zero = omega arith
     up_to (suc t) =
-        omega (arith, up_to t, busy-most (state_at T start t), state-length T start t, mul-suc (length start) t)
+        omega (arith, up_to t, busy_most (state_at T start t), state_length T start t, mul-suc (length start) t)

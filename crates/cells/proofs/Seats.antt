@@ -13,7 +13,7 @@ use lib.ListN.{length, get_or, take, length-append, get_or-append}
 use lib.Seq.{get_or-append-add, take-length}
 use Rattle.lists.specs.Lists.{build, total}
 use Rattle.lists.proofs.Build.{length-build, get_or_build}
-use Rattle.lists.proofs.Figures.{total-more}
+use Rattle.lists.proofs.Figures.{total_more}
 use Rattle.cells.specs.Rows.{per_cell}
 
 -- The first cell of row i.
@@ -22,7 +22,7 @@ first_cell len i = total (take i len)
 
 pub first_more : (len : List ℕ) (i : ℕ) → i < length len → first_cell len (i + 1) ≡ first_cell len i + get_or len i 0
 unfolding first_cell
-first_more len i l = total-more len i l
+first_more len i l = total_more len i l
 
 pub first_all : (len : List ℕ) → first_cell len (length len) ≡ total len
 unfolding first_cell

@@ -19,7 +19,7 @@ use Rattle.lists.specs.Lists.{build}
 use Rattle.lists.proofs.Build.{build_of, map-build}
 use Rattle.lists.proofs.Filling.{filled, filled_past}
 use Rattle.slack.specs.Slack.{Traffic, pick, slot_of, state_at, plan_of, late_row, stop_of}
-use Rattle.slack.proofs.Rule.{pick_least, slot_length, slot_entry, state-length, late_lowest}
+use Rattle.slack.proofs.Rule.{pick_least, slot_length, slot_entry, state_length, late_lowest}
 use Rattle.slack.proofs.Ending.{stop_first}
 use Rattle.cells.specs.Cells.{owner_of, told_by}
 use Rattle.cells.specs.Steps.{AtMost, AboveZero}
@@ -93,7 +93,7 @@ unfolding plan_of
 plan_at_most T start zero = λ k l. absurd (omega arith)
 plan_at_most T start (suc t) =
     both_at_most (length start) (plan_of T start t) (slot_of T t (state_at T start t)) (plan_at_most T start t)
-    (rw (state-length T start t) at (slot_at_most T t (state_at T start t)))
+    (rw (state_length T start t) at (slot_at_most T t (state_at T start t)))
 
 -- A run ends with a cell that there is, or with none.
 pub stop_cell : (T : Traffic) (start : List ℕ) (slots : ℕ) → (stop_of T start slots).row ≤ length start
@@ -104,4 +104,4 @@ stop_cell T start slots = go (stop_of T start slots).row (sym (stop_first T star
 
     go : (r : ℕ) → late_row T end (state_at T start end) ≡ r → r ≤ length start
     go zero e = omega arith
-    go (suc c) e = omega (arith, (late_lowest T end (state_at T start end) c e).inside, state-length T start end)
+    go (suc c) e = omega (arith, (late_lowest T end (state_at T start end) c e).inside, state_length T start end)

@@ -28,16 +28,16 @@ module _ (F : Freight) where
   unfolding Delivered
   delivered_decided left i = all_below (length left) (λ c. follows (ℕ_discrete _ _) (ℕ_discrete _ _))
 
-  unfoldable pub legal-rows_decided : (slots : ℕ) (schedule : List ℕ) → Dec (LegalRows F slots schedule)
+  unfoldable pub legal_rows_decided : (slots : ℕ) (schedule : List ℕ) → Dec (LegalRows F slots schedule)
   unfolding LegalRows
-  legal-rows_decided slots schedule =
+  legal_rows_decided slots schedule =
       alike (λ h t p i l inside named. h t l p inside i named) (λ h t l p inside i named. h t p i l inside named)
       (all_below slots (λ t. all_below F.nodes (λ p. row_named_lem (get_or (named_in (road F) schedule t) p 0) (λ i.
       holds_decided (cells_left F schedule t) i p))))
 
-  unfoldable pub meets-rows_decided : (schedule : List ℕ) → Dec (MeetsRows F schedule)
+  unfoldable pub meets_rows_decided : (schedule : List ℕ) → Dec (MeetsRows F schedule)
   unfolding MeetsRows
-  meets-rows_decided schedule =
+  meets_rows_decided schedule =
       all_below (length F.len) (λ i.
       some_below (suc (suc (get_or F.due i 0))) (λ t h. omega arith) (λ t. dec_le _ _)
       (λ t. delivered_decided (cells_left F schedule t) i))
@@ -45,4 +45,4 @@ module _ (F : Freight) where
   unfoldable pub row_schedule_decided : (slots : ℕ) (schedule : List ℕ) → Dec (RowSchedule F slots schedule)
   row_schedule_decided slots schedule =
       alike (λ h. record { entries = h.0; legal = h.1; meets = h.2 }) (λ s. (s.entries, s.legal, s.meets))
-      (all_three (ℕ_discrete _ _) (legal-rows_decided slots schedule) (meets-rows_decided schedule))
+      (all_three (ℕ_discrete _ _) (legal_rows_decided slots schedule) (meets_rows_decided schedule))

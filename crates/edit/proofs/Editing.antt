@@ -1,7 +1,7 @@
 -- One edit of the area of a table: a good one makes the area of the rows afterwards, count by count.
---     load-fewer, load_changed      the load of a link, counted afresh, when row k is removed, or changed
+--     load_fewer, load_changed      the load of a link, counted afresh, when row k is removed, or changed
 --     step_in, step_out             a row counted in or out
---     load-held                     no load comes near the end of a number
+--     load_held                     no load comes near the end of a number
 --     load_after_lem                    the counts are those of the rows afterwards
 --     behind_after_lem                  the zeros come out right
 --     edited_area                   a good edit makes the area of the rows afterwards
@@ -20,13 +20,13 @@ use lib.ListN.{length, get_or, take, drop, replicate}
 use lib.ListN.{length-append, length-drop, length-replicate, replicate-append-replicate}
 use lib.Seq.{split_at, drop_at, drop-drop}
 use Rattle.table.specs.declared.Row.{Row}
-use Rattle.table.specs.Table.{most-rows, most-length}
+use Rattle.table.specs.Table.{most_rows, most_length}
 use Rattle.table.specs.Steps.{none}
-use Rattle.area.specs.Area.{most-links, row-width, row_place, room, crosses, load, laid, area_of}
+use Rattle.area.specs.Area.{most_links, row_width, row_place, room, crosses, load, laid, area_of}
 use Rattle.area.specs.Area.{nodes_in, count_in, load_in, row_in, rows_in}
 use Rattle.area.proofs.Areas.{nodes_in_area, count_in_area, load_in_area, row_in_area, rows_in_area, behind_area}
-use Rattle.area.proofs.Areas.{laid-long, laid_ext, rows-counted}
-use Rattle.area.proofs.Loads.{counted, load_between, load-more, load-few}
+use Rattle.area.proofs.Areas.{laid_long, laid_ext, rows_counted}
+use Rattle.area.proofs.Loads.{counted, load_between, load_more, load_few}
 use Rattle.area.proofs.GoodRows.{AllGood, cells_few}
 use Rattle.edit_judge.specs.Judge.{Edit, Add, Change, Remove, refusal_of}
 use Rattle.edit_judge.proofs.Refusals.{Fits, edit_fits}
@@ -37,9 +37,9 @@ use Rattle.edit.proofs.RowsAfter.{count_after, rows_after_long, few_after, good_
 -- ---- the load of link p, when row k goes or changes
 module _ (n p : ℕ) (rows : List Row) (k : ℕ) (first : 0 < k) (last : k ≤ length rows) where
   -- A row removed is counted out.
-  pub load-fewer : load n rows p ≡ counted n (get_or rows (k - 1) none) p + load n (rows_after rows (Remove k)) p
+  pub load_fewer : load n rows p ≡ counted n (get_or rows (k - 1) none) p + load n (rows_after rows (Remove k)) p
   unfolding rows_after
-  load-fewer =
+  load_fewer =
       let old : Row = get_or rows (k - 1) none in
       let next : suc (k - 1) ≡ k = omega arith in
       let here : rows ≡ take (k - 1) rows ++ old ∷ drop k rows =
@@ -51,7 +51,7 @@ module _ (n p : ℕ) (rows : List Row) (k : ℕ) (first : 0 < k) (last : k ≤ l
   pub load_changed : (r : Row)
       → counted n (get_or rows (k - 1) none) p + load n (rows_after rows (Change k r)) p ≡ counted n r p + load n rows p
   unfolding rows_after
-  load_changed r = omega (arith, load_between n p (take (k - 1) rows) r (drop k rows), load-fewer)
+  load_changed r = omega (arith, load_between n p (take (k - 1) rows) r (drop k rows), load_fewer)
 
 -- ---- one count
 -- A row counted in, where the count doesn't come past its end.
@@ -75,39 +75,39 @@ step_out n r p x = go (crosses n r p)
     go false = omega arith
 
 -- No load of at most 512 rows of which none is bad is above 512 times 64.
-pub load-held : (n p : ℕ) (rows : List Row)
-    → length rows ≤ most-rows
+pub load_held : (n p : ℕ) (rows : List Row)
+    → length rows ≤ most_rows
     → AllGood n rows
-    → load n rows p ≤ most-rows * most-length
-load-held n p rows few good = omega (arith, load-few n p rows, cells_few n rows good)
+    → load n rows p ≤ most_rows * most_length
+load_held n p rows few good = omega (arith, load_few n p rows, cells_few n rows good)
 
 -- ---- the parts of an area
 -- As many zeros as stand behind `count` rows.
 abbrev zeros : ℕ → List ℕ
-zeros count = replicate (row-width * (most-rows - count)) 0
+zeros count = replicate (row_width * (most_rows - count)) 0
 
 -- One row fewer gives the zeros of a row back.
-more_zeros : (count : ℕ) → 0 < count → count ≤ most-rows → replicate row-width 0 ++ zeros count ≡ zeros (count - 1)
+more_zeros : (count : ℕ) → 0 < count → count ≤ most_rows → replicate row_width 0 ++ zeros count ≡ zeros (count - 1)
 more_zeros count some h =
-    let row : row-width + row-width * (most-rows - count) ≡ row-width * (most-rows - (count - 1)) = omega arith in
-    rw (replicate-append-replicate {A = ℕ} row-width (row-width * (most-rows - count)) 0, row)
+    let row : row_width + row_width * (most_rows - count) ≡ row_width * (most_rows - (count - 1)) = omega arith in
+    rw (replicate-append-replicate {A = ℕ} row_width (row_width * (most_rows - count)) 0, row)
 
 -- One row more takes the zeros of a row.
-fewer_zeros : (count : ℕ) → count < most-rows → drop row-width (zeros count) ≡ zeros (suc count)
+fewer_zeros : (count : ℕ) → count < most_rows → drop row_width (zeros count) ≡ zeros (suc count)
 fewer_zeros count h =
     let back : suc count - 1 ≡ count = omega arith in
-    let row : replicate row-width 0 ++ zeros (suc count) ≡ zeros count =
+    let row : replicate row_width 0 ++ zeros (suc count) ≡ zeros count =
     more_zeros (suc count) (omega arith) h ∙ ap zeros back
     in
-    ap (drop row-width) (sym row)
-    ∙ drop_at (replicate row-width 0) (zeros (suc count)) row-width (length-replicate {A = ℕ} row-width 0)
+    ap (drop row_width) (sym row)
+    ∙ drop_at (replicate row_width 0) (zeros (suc count)) row_width (length-replicate {A = ℕ} row_width 0)
 
 -- The area of a table, laid out.
 area_is : (n : ℕ) (rows : List Row) → area_of n rows ≡ laid n (load n rows) rows (zeros (length rows))
 unfolding area_of
 area_is n rows = refl
 
-module _ (n : ℕ) (rows : List Row) (few : length rows ≤ most-rows) (good : AllGood n rows) where
+module _ (n : ℕ) (rows : List Row) (few : length rows ≤ most_rows) (good : AllGood n rows) where
   -- The table's area.
   abbrev s : List ℕ
   s = area_of n rows
@@ -117,31 +117,31 @@ module _ (n : ℕ) (rows : List Row) (few : length rows ≤ most-rows) (good : A
       → 0 < k
       → k ≤ length rows
       → (p : ℕ)
-      → p < most-links
+      → p < most_links
       → step_for false (nodes_in s) (row_in s (k - 1)) p (load_in s p) ≡ load n (rows_after rows (Remove k)) p
   counted_out k first last p l =
       let old = row_in_area n rows (k - 1) (omega arith) in
-      rw (nodes_in_area n rows, old, load_in_area n rows p l, load-fewer n p rows k first last)
+      rw (nodes_in_area n rows, old, load_in_area n rows p l, load_fewer n p rows k first last)
       (step_out n (get_or rows (k - 1) none) p (load n (rows_after rows (Remove k)) p))
 
   -- No count comes near its end.
-  held : (e : Edit) → Fits n (length rows) e → (p : ℕ) → load n (rows_after rows e) p ≤ most-rows * most-length
-  held e fits p = load-held n p (rows_after rows e) (few_after n rows e few fits) (good_after n rows e fits good)
+  held : (e : Edit) → Fits n (length rows) e → (p : ℕ) → load n (rows_after rows e) p ≤ most_rows * most_length
+  held e fits p = load_held n p (rows_after rows e) (few_after n rows e few fits) (good_after n rows e fits good)
 
   -- The counts after an edit are those of the rows afterwards.
   pub load_after_lem : (e : Edit)
       → Fits n (length rows) e
       → (p : ℕ)
-      → p < most-links
+      → p < most_links
       → load_after s e p ≡ load n (rows_after rows e) p
   unfolding Fits load_after rows_after
   load_after_lem (Add r) h p l =
       let most = held (Add r) h p in
-      rw (nodes_in_area n rows, load_in_area n rows p l, load-more n p rows r)
-      (step_in n r p (load n rows p) (omega (arith, most, load-more n p rows r)))
+      rw (nodes_in_area n rows, load_in_area n rows p l, load_more n p rows r)
+      (step_in n r p (load n rows p) (omega (arith, most, load_more n p rows r)))
   load_after_lem (Change k r) h p l =
       let others : ℕ = load n (rows_after rows (Remove k)) p in
-      let fewer = load-fewer n p rows k h.0.0 h.0.1 in
+      let fewer = load_fewer n p rows k h.0.0 h.0.1 in
       let moved = load_changed n p rows k h.0.0 h.0.1 r in
       let below : counted n r p + others ≤ 65535 = omega (arith, held (Change k r) h p, fewer, moved) in
       rw (counted_out k h.0.0 h.0.1 p l, nodes_in_area n rows)
@@ -152,9 +152,9 @@ module _ (n : ℕ) (rows : List Row) (few : length rows ≤ most-rows) (good : A
   pub behind_after_lem : (e : Edit) → Fits n (length rows) e → behind_after s e ≡ zeros (count_after (length rows) e)
   unfolding Fits behind_after count_after
   behind_after_lem (Add r) h =
-      let past : row_place (suc (length rows)) ≡ row_place (length rows) + row-width = omega arith in
+      let past : row_place (suc (length rows)) ≡ row_place (length rows) + row_width = omega arith in
       rw (count_in_area n rows, past)
-      (sym (drop-drop row-width (row_place (length rows)) s) ∙ ap (drop row-width) (behind_area n rows)
+      (sym (drop-drop row_width (row_place (length rows)) s) ∙ ap (drop row_width) (behind_area n rows)
       ∙ fewer_zeros (length rows) h.0)
   behind_after_lem (Change k r) h = rw (count_in_area n rows) (behind_area n rows)
   behind_after_lem (Remove k) h =
@@ -176,7 +176,7 @@ rows_next n rows e = cond (eqb (refusal_of n (length rows) e) 0) (rows_after row
 
 -- Any edit of the area of a table makes the area of the rows that it leaves.
 pub area_after_lem : (n : ℕ) (rows : List Row)
-    → length rows ≤ most-rows
+    → length rows ≤ most_rows
     → AllGood n rows
     → (e : Edit)
     → area_after (area_of n rows) e ≡ area_of n (rows_next n rows e)
@@ -211,7 +211,7 @@ module _ (n : ℕ) (P : List Row → Type 0)
 -- What stands behind the rows afterwards fills the area.
 behind_long : (s : List ℕ) (e : Edit)
     → length s ≡ room
-    → count_in s ≤ most-rows
+    → count_in s ≤ most_rows
     → Fits (nodes_in s) (count_in s) e
     → row_place (count_after (count_in s) e) + length (behind_after s e) ≡ room
 unfolding Fits count_after behind_after
@@ -219,21 +219,21 @@ behind_long s (Add r) whole few h = omega (arith, h.0, length-drop (row_place (s
 behind_long s (Change k r) whole few h = omega (arith, length-drop (row_place (count_in s)) s)
 behind_long s (Remove k) whole few h =
     let behind : List ℕ = drop (row_place (count_in s)) s in
-    let both = length-append (replicate {A = ℕ} row-width 0) behind in
-    omega (arith, h.0, h.1, both, length-replicate {A = ℕ} row-width 0, length-drop (row_place (count_in s)) s)
+    let both = length-append (replicate {A = ℕ} row_width 0) behind in
+    omega (arith, h.0, h.1, both, length-replicate {A = ℕ} row_width 0, length-drop (row_place (count_in s)) s)
 
 -- A good edit of a whole area makes a whole area.
-edited-long : (s : List ℕ) (e : Edit) → length s ≡ room → edit_refusal s e ≡ 0 → length (edited s e) ≡ room
+edited_long : (s : List ℕ) (e : Edit) → length s ≡ room → edit_refusal s e ≡ 0 → length (edited s e) ≡ room
 unfolding edited
-edited-long s e whole h =
+edited_long s e whole h =
     let ok = edit_fits (nodes_in s) (count_in s) e h in
     let fits : Fits (nodes_in s) (length (rows_in s)) e =
-    subst (λ (c : ℕ). Fits (nodes_in s) c e) (sym (rows-counted s)) ok.1
+    subst (λ (c : ℕ). Fits (nodes_in s) c e) (sym (rows_counted s)) ok.1
     in
     let many : length (rows_after (rows_in s) e) ≡ count_after (count_in s) e =
-    rows_after_long (nodes_in s) (rows_in s) e fits ∙ ap (λ (c : ℕ). count_after c e) (rows-counted s)
+    rows_after_long (nodes_in s) (rows_in s) e fits ∙ ap (λ (c : ℕ). count_after c e) (rows_counted s)
     in
-    laid-long (nodes_in s) (load_after s e) (rows_after (rows_in s) e) (behind_after s e)
+    laid_long (nodes_in s) (load_after s e) (rows_after (rows_in s) e) (behind_after s e)
     ∙ omega (arith, many, behind_long s e whole ok.0.few ok.1)
 
 -- An edit keeps the length of a whole area, whatever stands in it.
@@ -242,5 +242,5 @@ unfolding area_after
 length_stays s e whole = go (eqb (edit_refusal s e) 0) refl
   where
     go : (b : Bool) → eqb (edit_refusal s e) 0 ≡ b → length (cond b (edited s e) s) ≡ room
-    go true f = edited-long s e whole (eqb-true (edit_refusal s e) 0 f)
+    go true f = edited_long s e whole (eqb-true (edit_refusal s e) 0 f)
     go false f = whole

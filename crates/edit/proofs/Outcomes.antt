@@ -16,8 +16,8 @@ use Rattle.lists.proofs.Build.{build_const}
 use Rattle.table.specs.declared.Row.{Row}
 use Rattle.table.specs.declared.Refusal.{Refusal}
 use Rattle.table.specs.declared.Verdict.TheVariants.{Good, Refused}
-use Rattle.table.specs.Table.{most-rows, row_refusal, refuse}
-use Rattle.area.specs.Area.{most-links, row-width, room, load, numbers, laid, area_of, nodes_in, count_in, row_in}
+use Rattle.table.specs.Table.{most_rows, row_refusal, refuse}
+use Rattle.area.specs.Area.{most_links, row_width, room, load, numbers, laid, area_of, nodes_in, count_in, row_in}
 use Rattle.edit_judge.specs.Judge.{Edit, Add, Change, Remove, first_of, size_refusal, refusal_of, row_named, verdict_by}
 use Rattle.edit_judge.proofs.Refusals.{Sized, Fits, edit_fits}
 use Rattle.edit_store.specs.Store.{step_by, edited}
@@ -53,16 +53,16 @@ module _ (s : List ℕ) (whole : length s ≡ room) where
       there k fits.0 fits.1.0
 
 -- A table that is larger than a table may be is refused by its size.
-large_refused : (n count : ℕ) (r : Row) → most-rows < count → refusal_of n count (Add r) < 3
+large_refused : (n count : ℕ) (r : Row) → most_rows < count → refusal_of n count (Add r) < 3
 unfolding refusal_of first_of size_refusal
-large_refused n count r h = go (ltb n 2 || ltb most-links n)
+large_refused n count r h = go (ltb n 2 || ltb most_links n)
   where
     rest : ℕ
-    rest = first_of (cond (eqb count most-rows) 2 0) (row_refusal n r)
+    rest = first_of (cond (eqb count most_rows) 2 0) (row_refusal n r)
 
-    go : (b : Bool) → first_of (cond b 1 (cond (ltb most-rows count) 2 0)) rest < 3
+    go : (b : Bool) → first_of (cond b 1 (cond (ltb most_rows count) 2 0)) rest < 3
     go true = omega arith
-    go false = rw (lt-ltb most-rows count h) (omega arith)
+    go false = rw (lt-ltb most_rows count h) (omega arith)
 
 -- An added row is named under its coming number.
 pub coming_number : (n count : ℕ) (r : Row)
@@ -101,10 +101,10 @@ module _ (s : List ℕ) (e : Edit) (why : ℕ) (so : why ≡ edit_refusal s e) w
       record { answers = rw (sym so, eq-eqb why 0 none); fills = rw (sym so, eq-eqb why 0 none) is }
 
 -- An area of zeros in which the nodes are noted is that of no rows.
-empty_area : (n : ℕ) → area_of n [] ≡ n ∷ 0 ∷ (replicate most-links 0 ++ replicate (row-width * most-rows) 0)
+empty_area : (n : ℕ) → area_of n [] ≡ n ∷ 0 ∷ (replicate most_links 0 ++ replicate (row_width * most_rows) 0)
 unfolding area_of laid load numbers
 empty_area n =
-    ap (λ (l : List ℕ). n ∷ 0 ∷ (l ++ replicate (row-width * most-rows) 0)) (build_const most-links 0)
+    ap (λ (l : List ℕ). n ∷ 0 ∷ (l ++ replicate (row_width * most_rows) 0)) (build_const most_links 0)
 
 cleared : (n a b : ℕ) → set (replicate (suc (suc (a + b))) 0) 0 n ≡ n ∷ 0 ∷ (replicate a 0 ++ replicate b 0)
 cleared n a b = ap {B = List ℕ} (λ l. n ∷ 0 ∷ l) (sym (replicate-append-replicate a b 0))
@@ -132,7 +132,7 @@ module _ (n : ℕ) (s : List ℕ) (why : ℕ) (so : why ≡ size_refusal n 0) wh
       }
     where
       opened : (zeros : List ℕ) → zeros ≡ replicate {A = ℕ} room 0 → set zeros 0 n ≡ area_of n []
-      opened zeros is = rw is (cleared n most-links (row-width * most-rows)) ∙ sym (empty_area n)
+      opened zeros is = rw is (cleared n most_links (row_width * most_rows)) ∙ sym (empty_area n)
 
 -- A row that is asked for.
 module _ (s : List ℕ) (k why : ℕ) (so : why ≡ edit_refusal s (Remove k)) where

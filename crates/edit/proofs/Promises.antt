@@ -27,13 +27,13 @@ use Rattle.table.specs.declared.Row.{Row}
 use Rattle.table.specs.declared.Refusal.{Refusal}
 use Rattle.table.specs.declared.Verdict.{Verdict}
 use Rattle.table.specs.declared.Verdict.TheVariants.{Good, Refused}
-use Rattle.table.specs.Table.{most-rows, most-length, most_cells, refuse, sends_of, cells_in, judge}
+use Rattle.table.specs.Table.{most_rows, most_length, most_cells, refuse, sends_of, cells_in, judge}
 use Rattle.table.specs.Steps.{none}
 use Rattle.table.proofs.Judging.{never_good}
-use Rattle.area.specs.Area.{most-links, crosses, load, area_of, nodes_in, count_in, load_in, row_in, rows_in}
+use Rattle.area.specs.Area.{most_links, crosses, load, area_of, nodes_in, count_in, load_in, row_in, rows_in}
 use Rattle.area.specs.Area.{loads_in, busiest_in}
 use Rattle.area.proofs.Areas.{load_in_laid, nodes_in_area, count_in_area, load_in_area, row_in_area, rows_in_area}
-use Rattle.area.proofs.Loads.{load-more}
+use Rattle.area.proofs.Loads.{load_more}
 use Rattle.area.proofs.GoodRows.{AllGood, judged_good}
 use Rattle.area.proofs.Ways.{loads_sum_to_sends}
 use Rattle.area.proofs.Promises.{Busiest, busiest_built}
@@ -42,7 +42,7 @@ use Rattle.edit_judge.proofs.Refusals.{size_of, size_fits, Fits, edit_fits, judg
 use Rattle.edit_store.specs.Store.{rows_after, step_for, load_after, behind_after, edited}
 use Rattle.edit.specs.Edit.{edit_refusal, about_row, area_after, Opened, Edited, after_edits, rows_by}
 use Rattle.edit.proofs.RowsAfter.{few_after, good_after}
-use Rattle.edit.proofs.Editing.{load-fewer, load_changed, load-held, edited_area, rows_next, area_after_lem}
+use Rattle.edit.proofs.Editing.{load_fewer, load_changed, load_held, edited_area, rows_next, area_after_lem}
 use Rattle.edit.proofs.Editing.{keeps_next, keeps}
 
 -- ---- one outcome
@@ -63,7 +63,7 @@ one_edit a b = (a.answers ∙ sym b.answers, a.fills ∙ sym b.fills)
 -- ---- any list of edits
 -- At most 512 rows, of which none is bad.
 abbrev pub Kept : ℕ → List Row → Type 0
-Kept n rows = (length rows ≤ most-rows) × AllGood n rows
+Kept n rows = (length rows ≤ most_rows) × AllGood n rows
 
 -- A good edit leaves such rows.
 kept_after : (n : ℕ) (rows : List Row) (e : Edit) → Kept n rows → Fits n (length rows) e → Kept n (rows_after rows e)
@@ -97,11 +97,11 @@ module _ (n : ℕ) (es : List Edit) where
   rows_are_those_entered = ap rows_in edits_make_rows ∙ rows_in_area n rows
 
   -- The load of a link is that of the rows edited.
-  its_load : (p : ℕ) → p < most-links → load_in s p ≡ load n rows p
+  its_load : (p : ℕ) → p < most_links → load_in s p ≡ load n rows p
   its_load p l = ap (λ (a : List ℕ). load_in a p) edits_make_rows ∙ load_in_area n rows p l
 
   -- Its counts are those that counting its rows afresh gives.
-  pub counts_are_fresh : (p : ℕ) → p < most-links → load_in s p ≡ load n (rows_in s) p
+  pub counts_are_fresh : (p : ℕ) → p < most_links → load_in s p ≡ load n (rows_in s) p
   counts_are_fresh p l = its_load p l ∙ ap (λ (rs : List Row). load n rs p) (sym rows_are_those_entered)
 
   -- It never has more than 512 rows, and none of them is bad.
@@ -110,8 +110,8 @@ module _ (n : ℕ) (es : List Edit) where
   kept = keeps n (Kept n) (kept_after n) es [] (omega arith, tt)
 
   -- No count is above 512 rows times 64 cells, 32,768.
-  pub no_count_overflows : (p : ℕ) → p < most-links → load_in s p ≤ most-rows * most-length
-  no_count_overflows p l = omega (arith, its_load p l, load-held n p rows kept.0 kept.1)
+  pub no_count_overflows : (p : ℕ) → p < most_links → load_in s p ≤ most_rows * most_length
+  no_count_overflows p l = omega (arith, its_load p l, load_held n p rows kept.0 kept.1)
 
   -- A table that could be opened is never refused with 1 to 6 or 10, however it was edited: it is well-formed, or it
   -- has more than 1,024 cells and is refused with 11.
@@ -125,11 +125,11 @@ module _ (n : ℕ) (es : List Edit) where
       rw (edits_make_rows, nodes_in_area n rows, count_in_area n rows) (size_of n (length rows) kept.0 ∙ opened)
 
   -- The loads of the ring's links are those of the rows edited.
-  its_loads : n ≤ most-links → loads_in s ≡ build n (load n rows)
+  its_loads : n ≤ most_links → loads_in s ≡ build n (load n rows)
   unfolding loads_in
   its_loads h =
-      let links : min n most-links ≡ n = omega arith in
-      ap (λ (k : ℕ). build (min k most-links) (load_in s)) (ap nodes_in edits_make_rows ∙ nodes_in_area n rows)
+      let links : min n most_links ≡ n = omega arith in
+      ap (λ (k : ℕ). build (min k most_links) (load_in s)) (ap nodes_in edits_make_rows ∙ nodes_in_area n rows)
       ∙ ap (λ (k : ℕ). build k (load_in s)) links
       ∙ build_ext n (load_in s) (load n rows) (λ p l. its_load p (omega arith))
 
@@ -149,7 +149,7 @@ module _ (n : ℕ) (es : List Edit) where
 
   -- After one more edit a load is that of the rows then.
   load_then : (p : ℕ)
-      → p < most-links
+      → p < most_links
       → (e : Edit)
       → edit_refusal s e ≡ 0
       → load_in (area_after s e) p ≡ load n (rows_after rows e) p
@@ -164,13 +164,13 @@ module _ (n : ℕ) (es : List Edit) where
   its_row : (k : ℕ) → 0 < k → k ≤ length rows → row_in s (k - 1) ≡ get_or rows (k - 1) none
   its_row k first last = ap (λ (a : List ℕ). row_in a (k - 1)) edits_make_rows ∙ row_in_area n rows (k - 1) (omega arith)
 
-  module _ (p : ℕ) (l : p < most-links) where
+  module _ (p : ℕ) (l : p < most_links) where
     -- Adding a row raises each count on its way by exactly its length, and no other.
     pub adding_raises : (r : Row)
         → edit_refusal s (Add r) ≡ 0
         → load_in (area_after s (Add r)) p ≡ cond (crosses n r p) r.len 0 + load_in s p
     unfolding rows_after
-    adding_raises r h = omega (arith, load_then p l (Add r) h, load-more n p rows r, its_load p l)
+    adding_raises r h = omega (arith, load_then p l (Add r) h, load_more n p rows r, its_load p l)
 
     -- Removing a row lowers each count on its way by exactly its length, and no other.
     pub removing_lowers : (k : ℕ)
@@ -179,7 +179,7 @@ module _ (n : ℕ) (es : List Edit) where
     unfolding Fits
     removing_lowers k h =
         let there = fits_it (Remove k) h in
-        let fewer = load-fewer n p rows k there.0 there.1 in
+        let fewer = load_fewer n p rows k there.0 there.1 in
         rw (its_row k there.0 there.1) (omega (arith, load_then p l (Remove k) h, fewer, its_load p l))
 
     -- Changing a row counts it out as it was, and in as it is now.
@@ -243,7 +243,7 @@ load_off s (Remove k) p off = off_way false (nodes_in s) (row_in s (k - 1)) p (l
 -- An edit of any area changes no count of a link that lies neither on the way of the row put in nor on that of the row
 -- taken out.
 pub only_on_the_ways : (s : List ℕ) (e : Edit) (p : ℕ)
-    → p < most-links
+    → p < most_links
     → on_way s e p ≡ false
     → load_in (area_after s e) p ≡ load_in s p
 unfolding area_after edited

@@ -9,7 +9,7 @@ use mathlib.Core.List.{List, [], ◌∷◌}
 use lib.ListN.{length, take, drop, length-append, length-drop}
 use lib.Seq.{length-take-le}
 use Rattle.table.specs.declared.Row.{Row}
-use Rattle.table.specs.Table.{most-rows}
+use Rattle.table.specs.Table.{most_rows}
 use Rattle.area.proofs.GoodRows.{AllGood, good_append, good_split}
 use Rattle.edit_judge.specs.Judge.{Edit, Add, Change, Remove}
 use Rattle.edit_judge.proofs.Refusals.{Fits}
@@ -26,7 +26,7 @@ count_after count (Change k r) = count
 count_after count (Remove k) = count - 1
 
 -- They are few enough.
-count_few : (n count : ℕ) (e : Edit) → count ≤ most-rows → Fits n count e → count_after count e ≤ most-rows
+count_few : (n count : ℕ) (e : Edit) → count ≤ most_rows → Fits n count e → count_after count e ≤ most_rows
 unfolding Fits count_after
 count_few n count (Add r) few h = h.0
 count_few n count (Change k r) few h = few
@@ -48,9 +48,9 @@ module _ (n : ℕ) (rows : List Row) where
 
   -- The rows after an edit are still few enough.
   pub few_after : (e : Edit)
-      → length rows ≤ most-rows
+      → length rows ≤ most_rows
       → Fits n (length rows) e
-      → length (rows_after rows e) ≤ most-rows
+      → length (rows_after rows e) ≤ most_rows
   few_after e few fits = omega (arith, rows_after_long e fits, count_few n (length rows) e few fits)
 
   -- No row is bad after an edit either.

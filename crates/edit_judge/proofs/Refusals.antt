@@ -16,8 +16,8 @@ use lib.ListN.{length}
 use Rattle.table.specs.declared.Row.{Row}
 use Rattle.table.specs.declared.Verdict.{Verdict}
 use Rattle.table.specs.declared.Verdict.TheVariants.{Good, Refused}
-use Rattle.table.specs.Table.{most-rows, most_cells, refuse, row_refusal, cells_in, after_rows, judge_all, judge}
-use Rattle.area.specs.Area.{most-links}
+use Rattle.table.specs.Table.{most_rows, most_cells, refuse, row_refusal, cells_in, after_rows, judge_all, judge}
+use Rattle.area.specs.Area.{most_links}
 use Rattle.area.proofs.GoodRows.{AllGood, judged_good}
 use Rattle.edit_judge.specs.Judge.{Edit, Add, Change, Remove, first_of, size_refusal, number_refusal, refusal_of}
 
@@ -31,31 +31,31 @@ neither a b e = go (eqb a 0) refl e
     go false f z = absurd (eqb-false a 0 f z)
 
 -- At most 512 rows are refused no otherwise than none.
-pub size_of : (n count : ℕ) → count ≤ most-rows → size_refusal n count ≡ size_refusal n 0
+pub size_of : (n count : ℕ) → count ≤ most_rows → size_refusal n count ≡ size_refusal n 0
 unfolding size_refusal
-size_of n count few = rw (le-ltb most-rows count few)
+size_of n count few = rw (le-ltb most_rows count few)
 
 -- Nodes and rows that no refusal holds of.
 pub record Sized (n count : ℕ) : Type 0 where
   pub least : 2 ≤ n
-  pub most : n ≤ most-links
-  pub few : count ≤ most-rows
+  pub most : n ≤ most_links
+  pub few : count ≤ most_rows
 
 -- An area that isn't refused by its sizes has 2 to 32 nodes and at most 512 rows.
 pub size_fits : (n count : ℕ) → size_refusal n count ≡ 0 → Sized n count
 unfolding size_refusal
-size_fits n count e = go (ltb n 2) refl (ltb most-links n) refl (ltb most-rows count) refl e
+size_fits n count e = go (ltb n 2) refl (ltb most_links n) refl (ltb most_rows count) refl e
   where
     go : (a : Bool) → ltb n 2 ≡ a
-        → (b : Bool) → ltb most-links n ≡ b
-        → (c : Bool) → ltb most-rows count ≡ c
+        → (b : Bool) → ltb most_links n ≡ b
+        → (c : Bool) → ltb most_rows count ≡ c
         → ◌≡◌ {A = ℕ} (cond (a || b) 1 (cond c 2 0)) 0
         → Sized n count
     go true ea b eb c ec z = absurd (omega arith)
     go false ea true eb c ec z = absurd (omega arith)
     go false ea false eb true ec z = absurd (omega arith)
     go false ea false eb false ec z =
-        record { least = ltb-false n 2 ea; most = ltb-false most-links n eb; few = ltb-false most-rows count ec }
+        record { least = ltb-false n 2 ea; most = ltb-false most_links n eb; few = ltb-false most_rows count ec }
 
 -- A row number that is there.
 pub number_fits : (count k : ℕ) → number_refusal count k ≡ 0 → (0 < k) × (k ≤ count)
@@ -72,17 +72,17 @@ number_fits count k e = go (eqb k 0) refl (ltb count k) refl e
 
 -- An edit of a table of n nodes and `count` rows that nothing is wrong with.
 unfoldable pub Fits : (n count : ℕ) → Edit → Type 0
-Fits n count (Add r) = (count < most-rows) × (row_refusal n r ≡ 0)
+Fits n count (Add r) = (count < most_rows) × (row_refusal n r ≡ 0)
 Fits n count (Change k r) = ((0 < k) × (k ≤ count)) × (row_refusal n r ≡ 0)
 Fits n count (Remove k) = (0 < k) × (k ≤ count)
 
 -- A table that has not 512 rows, and no more, has room for one.
-room-left : (count : ℕ) → count ≤ most-rows → ◌≡◌ {A = ℕ} (cond (eqb count most-rows) 2 0) 0 → count < most-rows
-room-left count few e = go (eqb count most-rows) refl e
+room_left : (count : ℕ) → count ≤ most_rows → ◌≡◌ {A = ℕ} (cond (eqb count most_rows) 2 0) 0 → count < most_rows
+room_left count few e = go (eqb count most_rows) refl e
   where
-    go : (t : Bool) → eqb count most-rows ≡ t → ◌≡◌ {A = ℕ} (cond t 2 0) 0 → count < most-rows
+    go : (t : Bool) → eqb count most_rows ≡ t → ◌≡◌ {A = ℕ} (cond t 2 0) 0 → count < most_rows
     go true f z = absurd (omega arith)
-    go false f z = omega (arith, eqb-false count most-rows f)
+    go false f z = omega (arith, eqb-false count most_rows f)
 
 -- An edit that isn't refused fits, and the table's sizes do.
 pub edit_fits : (n count : ℕ) (e : Edit) → refusal_of n count e ≡ 0 → Sized n count × Fits n count e
@@ -91,7 +91,7 @@ edit_fits n count (Add r) h =
     let a = neither _ _ h in
     let b = neither _ _ a.1 in
     let sized = size_fits n count a.0 in
-    (sized, (room-left count sized.few b.0, b.1))
+    (sized, (room_left count sized.few b.0, b.1))
 edit_fits n count (Change k r) h =
     let a = neither _ _ h in
     let b = neither _ _ a.0 in
@@ -106,7 +106,7 @@ pub judged_by_cells : (n : ℕ) (rows : List Row)
     → AllGood n rows
     → judge n rows ≡ cond (ltb most_cells (cells_in rows)) (Refused (refuse 11 0 0)) Good
 unfolding size_refusal judge judge_all after_rows
-judged_by_cells n rows e g = go (ltb n 2 || ltb most-links n) (ltb most-rows (length rows)) e
+judged_by_cells n rows e g = go (ltb n 2 || ltb most_links n) (ltb most_rows (length rows)) e
   where
     cells : Verdict
     cells = cond (ltb most_cells (cells_in rows)) (Refused (refuse 11 0 0)) Good

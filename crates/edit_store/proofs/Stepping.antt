@@ -17,7 +17,7 @@ use lib.Seq.{length-take-le, get_or-take, get_or-drop, get_or-append-add}
 use Rattle.lists.specs.Lists.{build}
 use Rattle.lists.proofs.Build.{is_build, build_ext, get_or_build, length-build}
 use Rattle.table.specs.declared.Row.{Row}
-use Rattle.area.specs.Area.{most-links, crosses}
+use Rattle.area.specs.Area.{most_links, crosses}
 use Rattle.edit_store.specs.Store.{step_by, step_for}
 use Rattle.edit_store.specs.Steps.{stepped_way}
 
@@ -207,7 +207,7 @@ module _ (up : Bool) (n : ℕ) (r : Row) where
           ∙ sym (on_way_lem p x here true (rw (le-ltb r.src r.dst way, le-leb r.src p more)))
 
 -- ---- the counts of a way, in one list of all links
-module _ (up : Bool) (n : ℕ) (r : Row) (l : List ℕ) (ring : n ≤ most-links) (long : length l ≡ most-links) where
+module _ (up : Bool) (n : ℕ) (r : Row) (l : List ℕ) (ring : n ≤ most_links) (long : length l ≡ most_links) where
   -- The count of link p, stepped where the row crosses it.
   abbrev stepped : ℕ → ℕ
   stepped p = step_for up n r p (get_or l p 0)
@@ -221,9 +221,9 @@ module _ (up : Bool) (n : ℕ) (r : Row) (l : List ℕ) (ring : n ≤ most-links
   unfolding stepped_way
   way_ahead {from} {to} {ys} f t way so =
       part_stepped up r.len from to l ys (omega arith) (omega arith) so
-      ∙ rw long (build_ext most-links (λ p. in_stretch up r.len from to p (get_or l p 0)) stepped one)
+      ∙ rw long (build_ext most_links (λ p. in_stretch up r.len from to p (get_or l p 0)) stepped one)
     where
-      one : (p : ℕ) → p < most-links → in_stretch up r.len from to p (get_or l p 0) ≡ stepped p
+      one : (p : ℕ) → p < most_links → in_stretch up r.len from to p (get_or l p 0) ≡ stepped p
       one p h = rw (f, t) (one_stretch up n r way p (get_or l p 0))
 
   pub way_round : {from to : ℕ} {ys zs : List ℕ}
@@ -236,7 +236,7 @@ module _ (up : Bool) (n : ℕ) (r : Row) (l : List ℕ) (ring : n ≤ most-links
   unfolding stepped_way
   way_round {from} {to} {ys} {zs} f t way so last =
       part_stepped up r.len 0 to l' zs (omega arith) (omega (arith, whole)) last
-      ∙ rw whole (build_ext most-links (λ p. in_stretch up r.len 0 to p (get_or l' p 0)) stepped both)
+      ∙ rw whole (build_ext most_links (λ p. in_stretch up r.len 0 to p (get_or l' p 0)) stepped both)
     where
       l' : List ℕ
       l' = put_mid from (n - from) l ys
@@ -244,15 +244,15 @@ module _ (up : Bool) (n : ℕ) (r : Row) (l : List ℕ) (ring : n ≤ most-links
       upper : ℕ → ℕ
       upper p = in_stretch up r.len from n p (get_or l p 0)
 
-      first : l' ≡ build most-links upper
+      first : l' ≡ build most_links upper
       first = part_stepped up r.len from n l ys (omega arith) (omega arith) so ∙ rw long
 
-      whole : length l' ≡ most-links
-      whole = ap length first ∙ length-build most-links upper
+      whole : length l' ≡ most_links
+      whole = ap length first ∙ length-build most_links upper
 
-      both : (p : ℕ) → p < most-links → in_stretch up r.len 0 to p (get_or l' p 0) ≡ stepped p
+      both : (p : ℕ) → p < most_links → in_stretch up r.len 0 to p (get_or l' p 0) ≡ stepped p
       both p h =
           let entry : get_or l' p 0 ≡ upper p =
-          ap (λ (m : List ℕ). get_or m p 0) first ∙ get_or_build most-links upper p 0 h
+          ap (λ (m : List ℕ). get_or m p 0) first ∙ get_or_build most_links upper p 0 h
           in
           rw (entry, f, t) (two_stretches up n r way p (get_or l p 0))

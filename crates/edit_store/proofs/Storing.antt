@@ -15,12 +15,12 @@ use lib.Seq.{take_at, drop_at, drop-drop, length-take-le, drop-cons}
 use Rattle.lists.specs.Lists.{build}
 use Rattle.lists.proofs.Build.{length-build, build_ext, get_or_build}
 use Rattle.table.specs.declared.Row.{Row}
-use Rattle.table.specs.Table.{most-rows, row_numbers}
+use Rattle.table.specs.Table.{most_rows, row_numbers}
 use Rattle.table.specs.Steps.{none}
-use Rattle.area.specs.Area.{most-links, row-width, loads_begin, row_place, room, numbers, laid}
+use Rattle.area.specs.Area.{most_links, row_width, loads_begin, row_place, room, numbers, laid}
 use Rattle.area.specs.Area.{nodes_in, count_in, load_in, row_in, rows_in}
-use Rattle.area.proofs.RowNumbers.{numbers-long, numbers-cons, numbers-parted, numbers_later}
-use Rattle.area.proofs.Areas.{head, head_long, laid_is, laid_again, rows-counted}
+use Rattle.area.proofs.RowNumbers.{numbers_long, numbers_cons, numbers_parted, numbers_later}
+use Rattle.area.proofs.Areas.{head, head_long, laid_is, laid_again, rows_counted}
 use Rattle.edit_judge.specs.Judge.{Add, Change, Remove}
 use Rattle.edit_store.specs.Store.{step_for, load_after, rows_after, behind_after, edited}
 use Rattle.edit_store.specs.Steps.{stepped_way, way_stepped, row_put, Roomy, There}
@@ -34,18 +34,18 @@ mid_at p q a m e = rw (drop_at p q a e)
 
 -- The counts of an area, and an area with other counts.
 abbrev counts_of : List ℕ → List ℕ
-counts_of s = mid_of loads_begin most-links s
+counts_of s = mid_of loads_begin most_links s
 
 abbrev with_counts : List ℕ → List ℕ → List ℕ
-with_counts s counts = put_mid loads_begin most-links s counts
+with_counts s counts = put_mid loads_begin most_links s counts
 
 -- An area with other numbers where a row stands.
 abbrev with_row : (s : List ℕ) (at : ℕ) (ys : List ℕ) → List ℕ
-with_row s at ys = put_mid at (at + row-width - at) s ys
+with_row s at ys = put_mid at (at + row_width - at) s ys
 
 -- The numbers of a row that is taken out.
 abbrev zeros : List ℕ
-zeros = replicate row-width 0
+zeros = replicate row_width 0
 
 -- Row i of a list between those before it and those behind it.
 parted : (rows : List Row) (i : ℕ) → i < length rows → rows ≡ take i rows ++ (get_or rows i none ∷ drop (suc i) rows)
@@ -66,14 +66,14 @@ module _ (n : ℕ) (f : ℕ → ℕ) (rows : List Row) (behind : List ℕ) where
       → with_counts area counts ≡ laid n (λ p. step_for up n r p (f p)) rows behind
   unfolding laid stepped_way
   way_counted up r counts so =
-      put_at (n ∷ length rows ∷ []) (build most-links f ++ body) counts loads_begin most-links refl
-      ∙ rw (drop_at (build most-links f) body most-links (length-build most-links f))
-      (ap (λ (l : List ℕ). n ∷ length rows ∷ (l ++ body)) (so ∙ build_ext most-links old new stepped))
+      put_at (n ∷ length rows ∷ []) (build most_links f ++ body) counts loads_begin most_links refl
+      ∙ rw (drop_at (build most_links f) body most_links (length-build most_links f))
+      (ap (λ (l : List ℕ). n ∷ length rows ∷ (l ++ body)) (so ∙ build_ext most_links old new stepped))
     where
-      entry : (p : ℕ) → p < most-links → get_or (counts_of area) p 0 ≡ f p
+      entry : (p : ℕ) → p < most_links → get_or (counts_of area) p 0 ≡ f p
       entry p h =
-          ap (λ (l : List ℕ). get_or l p 0) (take_at (build most-links f) body most-links (length-build most-links f))
-          ∙ get_or_build most-links f p 0 h
+          ap (λ (l : List ℕ). get_or l p 0) (take_at (build most_links f) body most_links (length-build most_links f))
+          ∙ get_or_build most_links f p 0 h
 
       old : ℕ → ℕ
       old p = step_for up n r p (get_or (counts_of area) p 0)
@@ -81,7 +81,7 @@ module _ (n : ℕ) (f : ℕ → ℕ) (rows : List Row) (behind : List ℕ) where
       new : ℕ → ℕ
       new p = step_for up n r p (f p)
 
-      stepped : (p : ℕ) → p < most-links → old p ≡ new p
+      stepped : (p : ℕ) → p < most_links → old p ≡ new p
       stepped p h = ap (step_for up n r p) (entry p h)
 
   -- The numbers before a row of the area.
@@ -91,7 +91,7 @@ module _ (n : ℕ) (f : ℕ → ℕ) (rows : List Row) (behind : List ℕ) where
   before_long : (above : List Row) (at : ℕ) → at ≡ row_place (length above) → length (before above) ≡ at
   before_long above at e =
       let both = length-append (head n (length rows) f) (numbers above) in
-      omega (arith, both, head_long n (length rows) f, numbers-long above)
+      omega (arith, both, head_long n (length rows) f, numbers_long above)
 
   -- The area in two parts: the numbers before a row, and the rest.
   area_parted : (above : List Row) (rest : List ℕ) → body ≡ numbers above ++ rest → area ≡ before above ++ rest
@@ -130,7 +130,7 @@ module _ (n : ℕ) (f : ℕ → ℕ) (rows : List Row) (behind : List ℕ) where
 
   body_of : (i : ℕ) → i < length rows → body ≡ numbers (take i rows) ++ rest_of i
   body_of i h =
-      ap (λ (l : List Row). numbers l ++ behind) (parted rows i h) ∙ numbers-parted (take i rows) (later_of i) behind
+      ap (λ (l : List Row). numbers l ++ behind) (parted rows i h) ∙ numbers_parted (take i rows) (later_of i) behind
 
   above_of : (i : ℕ) → i < length rows → length (take i rows) ≡ i
   above_of i h = length-take-le i rows (omega arith)
@@ -144,18 +144,18 @@ module _ (n : ℕ) (f : ℕ → ℕ) (rows : List Row) (behind : List ℕ) where
         → at ≡ row_place (length rows)
         → count ≡ length rows + 1
         → ys ≡ row_numbers r
-        → set (with_row area at ys) 1 count ≡ laid n f (rows ++ (r ∷ [])) (drop row-width behind)
+        → set (with_row area at ys) 1 count ≡ laid n f (rows ++ (r ∷ [])) (drop row_width behind)
     unfolding numbers
     row_added at count ys e k so =
-        ap (λ (l : List ℕ). set l 1 count) (put_body rows behind ys at (at + row-width - at) refl e)
-        ∙ count_set count (numbers rows ++ (ys ++ drop (at + row-width - at) behind))
-        ∙ laid_by (rows ++ (r ∷ [])) (drop row-width behind) count _ (length-append rows (r ∷ []) ∙ sym k) joined
+        ap (λ (l : List ℕ). set l 1 count) (put_body rows behind ys at (at + row_width - at) refl e)
+        ∙ count_set count (numbers rows ++ (ys ++ drop (at + row_width - at) behind))
+        ∙ laid_by (rows ++ (r ∷ [])) (drop row_width behind) count _ (length-append rows (r ∷ []) ∙ sym k) joined
       where
-        joined : numbers (rows ++ (r ∷ [])) ++ drop row-width behind
-            ≡ numbers rows ++ (ys ++ drop (at + row-width - at) behind)
+        joined : numbers (rows ++ (r ∷ [])) ++ drop row_width behind
+            ≡ numbers rows ++ (ys ++ drop (at + row_width - at) behind)
         joined =
-            let wide : at + row-width - at ≡ row-width = omega arith in
-            rw (wide, so, numbers-parted rows (r ∷ []) (drop row-width behind))
+            let wide : at + row_width - at ≡ row_width = omega arith in
+            rw (wide, so, numbers_parted rows (r ∷ []) (drop row_width behind))
 
     -- A row put in the place of row i.
     pub row_changed : (i at : ℕ) (ys : List ℕ)
@@ -164,7 +164,7 @@ module _ (n : ℕ) (f : ℕ → ℕ) (rows : List Row) (behind : List ℕ) where
         → ys ≡ row_numbers r
         → with_row area at ys ≡ laid n f (take i rows ++ (r ∷ drop (suc i) rows)) behind
     row_changed i at ys h e so =
-        put_body (take i rows) (rest_of i) ys at (at + row-width - at) (body_of i h) (row_at i at h e)
+        put_body (take i rows) (rest_of i) ys at (at + row_width - at) (body_of i h) (row_at i at h e)
         ∙ laid_by rows' behind (length rows) _ same joined
       where
         rows' : List Row
@@ -175,12 +175,12 @@ module _ (n : ℕ) (f : ℕ → ℕ) (rows : List Row) (behind : List ℕ) where
             let both = length-append (take i rows) (r ∷ drop (suc i) rows) in
             omega (arith, both, above_of i h, length-drop (suc i) rows)
 
-        joined : numbers rows' ++ behind ≡ numbers (take i rows) ++ (ys ++ drop (at + row-width - at) (rest_of i))
+        joined : numbers rows' ++ behind ≡ numbers (take i rows) ++ (ys ++ drop (at + row_width - at) (rest_of i))
         joined =
-            let wide : at + row-width - at ≡ row-width = omega arith in
+            let wide : at + row_width - at ≡ row_width = omega arith in
             let later = numbers_later (get_or rows i none) (drop (suc i) rows) behind in
-            numbers-parted (take i rows) (r ∷ drop (suc i) rows) behind
-            ∙ rw (wide, so, numbers-cons r (drop (suc i) rows) behind, later)
+            numbers_parted (take i rows) (r ∷ drop (suc i) rows) behind
+            ∙ rw (wide, so, numbers_cons r (drop (suc i) rows) behind, later)
 
   -- Row i taken out: the later ones moved down, zeros behind them, and one row fewer counted.
   pub row_removed : (i at end count : ℕ) (ys : List ℕ)
@@ -188,7 +188,7 @@ module _ (n : ℕ) (f : ℕ → ℕ) (rows : List Row) (behind : List ℕ) where
       → at ≡ row_place i
       → end ≡ row_place (length rows)
       → count ≡ length rows - 1
-      → ys ≡ drop row-width (mid_of at (end - at) area) ++ zeros
+      → ys ≡ drop row_width (mid_of at (end - at) area) ++ zeros
       → set (put_mid at (end - at) area ys) 1 count ≡ laid n f (take i rows ++ drop (suc i) rows) (zeros ++ behind)
   row_removed i at end count ys h e g k so =
       ap (λ (l : List ℕ). set l 1 count)
@@ -206,7 +206,7 @@ module _ (n : ℕ) (f : ℕ → ℕ) (rows : List Row) (behind : List ℕ) where
       fewer = omega (arith, length-append (take i rows) later, above_of i h, length-drop (suc i) rows)
 
       long : length (numbers (later_of i)) ≡ end - at
-      long = omega (arith, numbers-long (later_of i), length-drop (suc i) rows)
+      long = omega (arith, numbers_long (later_of i), length-drop (suc i) rows)
 
       taken : mid_of at (end - at) area ≡ numbers (later_of i)
       taken =
@@ -217,7 +217,7 @@ module _ (n : ℕ) (f : ℕ → ℕ) (rows : List Row) (behind : List ℕ) where
       moved : ys ≡ numbers later ++ zeros
       moved =
           let down = numbers_later (get_or rows i none) later [] in
-          so ∙ ap (λ (l : List ℕ). drop row-width l ++ zeros) (taken ∙ sym (append-nil (numbers (later_of i))))
+          so ∙ ap (λ (l : List ℕ). drop row_width l ++ zeros) (taken ∙ sym (append-nil (numbers (later_of i))))
           ∙ ap (λ (l : List ℕ). l ++ zeros) (down ∙ append-nil (numbers later))
 
       left : drop (end - at) (rest_of i) ≡ behind
@@ -225,7 +225,7 @@ module _ (n : ℕ) (f : ℕ → ℕ) (rows : List Row) (behind : List ℕ) where
 
       joined : numbers rows' ++ (zeros ++ behind) ≡ numbers (take i rows) ++ (ys ++ drop (end - at) (rest_of i))
       joined =
-          numbers-parted (take i rows) later (zeros ++ behind)
+          numbers_parted (take i rows) later (zeros ++ behind)
           ∙ rw (moved, left)
           (ap (λ (l : List ℕ). numbers (take i rows) ++ l) (sym (append_assoc (numbers later) zeros behind)))
 
@@ -235,24 +235,24 @@ pub way_put : (up : Bool) (n : ℕ) (r : Row) (s counts : List ℕ)
     → with_counts s counts ≡ way_stepped up n r s
 unfolding way_stepped
 way_put up n r s counts so =
-    ap (λ (l : List ℕ). take loads_begin s ++ (l ++ drop most-links (drop loads_begin s))) so
+    ap (λ (l : List ℕ). take loads_begin s ++ (l ++ drop most_links (drop loads_begin s))) so
     ∙ ap (λ (l : List ℕ). take loads_begin s ++ (stepped_way up n r (counts_of s) ++ l))
-    (drop-drop most-links loads_begin s)
+    (drop-drop most_links loads_begin s)
 
 -- The numbers of a row put in their place.
 pub row_put_lem : (i : ℕ) (r : Row) (s ys : List ℕ) → ys ≡ row_numbers r → with_row s (row_place i) ys ≡ row_put i r s
 unfolding row_put
 row_put_lem i r s ys so =
-    ap (λ (l : List ℕ). take at s ++ (l ++ drop (at + row-width - at) (drop at s))) so
+    ap (λ (l : List ℕ). take at s ++ (l ++ drop (at + row_width - at) (drop at s))) so
     ∙ ap (λ (l : List ℕ). take at s ++ (row_numbers r ++ l)) past
   where
     at : ℕ
     at = row_place i
 
-    past : drop (at + row-width - at) (drop at s) ≡ drop (row_place (suc i)) s
+    past : drop (at + row_width - at) (drop at s) ≡ drop (row_place (suc i)) s
     past =
-        let next : at + (at + row-width - at) ≡ row_place (suc i) = omega arith in
-        drop-drop (at + row-width - at) at s ∙ ap (λ (k : ℕ). drop k s) next
+        let next : at + (at + row_width - at) ≡ row_place (suc i) = omega arith in
+        drop-drop (at + row_width - at) at s ∙ ap (λ (k : ℕ). drop k s) next
 
 -- The stores, in an area as it was lent.
 module _ (s : List ℕ) where
@@ -264,7 +264,7 @@ module _ (s : List ℕ) where
   abbrev laid_with : (ℕ → ℕ) → List ℕ
   laid_with f = laid (nodes_in s) f (rows_in s) behind_in
 
-  laid_here : length s ≡ room → count_in s ≤ most-rows → s ≡ laid_with (load_in s)
+  laid_here : length s ≡ room → count_in s ≤ most_rows → s ≡ laid_with (load_in s)
   laid_here whole few = sym (laid_again s whole few)
 
   -- A way counted, where the counts were f.
@@ -293,14 +293,14 @@ module _ (s : List ℕ) where
   unfolding edited load_after rows_after behind_after
   added r t u roomy so is =
       let here = laid_here roomy.whole (omega (arith, roomy.more)) in
-      let last : at ≡ row_place (length (rows_in s)) = omega (arith, rows-counted s) in
-      let more : count_in s + 1 ≡ length (rows_in s) + 1 = omega (arith, rows-counted s) in
-      let past : at + row-width ≡ row_place (suc (count_in s)) = omega arith in
+      let last : at ≡ row_place (length (rows_in s)) = omega (arith, rows_counted s) in
+      let more : count_in s + 1 ≡ length (rows_in s) + 1 = omega (arith, rows_counted s) in
+      let past : at + row_width ≡ row_place (suc (count_in s)) = omega arith in
       let way = counted true (load_in s) s t r here so in
       ap (λ (l : List ℕ). set l 1 (count_in s + 1)) (put (count_in s) loads t u r way is)
       ∙ row_added (nodes_in s) loads (rows_in s) behind_in r at (count_in s + 1) (row_numbers r) last more refl
       ∙ ap (laid (nodes_in s) loads (rows_in s ++ (r ∷ [])))
-      (drop-drop row-width at s ∙ ap (λ (k : ℕ). drop k s) past)
+      (drop-drop row_width at s ∙ ap (λ (k : ℕ). drop k s) past)
     where
       at : ℕ
       at = row_place (count_in s)
@@ -310,7 +310,7 @@ module _ (s : List ℕ) where
 
   module _ (k : ℕ) (there : There s k) where
     index : k - 1 < length (rows_in s)
-    index = omega (arith, rows-counted s, there.first, there.last)
+    index = omega (arith, rows_counted s, there.first, there.last)
 
     number : suc (k - 1) ≡ k
     number = omega (arith, there.first)
@@ -345,16 +345,16 @@ module _ (s : List ℕ) where
         → end ≡ row_place (count_in s)
         → old ≡ row_in s (k - 1)
         → t ≡ way_stepped false (nodes_in s) old s
-        → ys ≡ drop row-width (mid_of at (end - at) t) ++ zeros
+        → ys ≡ drop row_width (mid_of at (end - at) t) ++ zeros
         → set (put_mid at (end - at) t ys) 1 (count_in s - 1) ≡ edited s (Remove k)
     unfolding edited load_after rows_after behind_after
     removed old t ys at end e g was so is =
         let out = counted false (load_in s) s t old here so in
-        let moved : ys ≡ drop row-width (mid_of at (end - at) (laid_with fewer)) ++ zeros =
-        is ∙ ap (λ (l : List ℕ). drop row-width (mid_of at (end - at) l) ++ zeros) out
+        let moved : ys ≡ drop row_width (mid_of at (end - at) (laid_with fewer)) ++ zeros =
+        is ∙ ap (λ (l : List ℕ). drop row_width (mid_of at (end - at) l) ++ zeros) out
         in
-        let last : end ≡ row_place (length (rows_in s)) = omega (arith, rows-counted s) in
-        let less : count_in s - 1 ≡ length (rows_in s) - 1 = omega (arith, rows-counted s) in
+        let last : end ≡ row_place (length (rows_in s)) = omega (arith, rows_counted s) in
+        let less : count_in s - 1 ≡ length (rows_in s) - 1 = omega (arith, rows_counted s) in
         ap (λ (l : List ℕ). set (put_mid at (end - at) l ys) 1 (count_in s - 1)) out
         ∙ row_removed (nodes_in s) fewer (rows_in s) behind_in (k - 1) at end (count_in s - 1) ys index e last less moved
         ∙ rw (number, was)

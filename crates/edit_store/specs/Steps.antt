@@ -2,18 +2,18 @@
 use Rattle.std.specs.Prelude.{ℕ, suc, ◌≤◌, ◌<◌, Bool, ◌≡◌, List, ◌++◌, length, get_or, take, drop}
 use Rattle.lists.specs.Lists.{build}
 use Rattle.table.specs.declared.Row.{Row}
-use Rattle.table.specs.Table.{most-rows, row_numbers}
-use Rattle.area.specs.Area.{most-links, loads_begin, rows_begin, row_place, room, nodes_in, count_in}
+use Rattle.table.specs.Table.{most_rows, row_numbers}
+use Rattle.area.specs.Area.{most_links, loads_begin, rows_begin, row_place, room, nodes_in, count_in}
 use Rattle.edit_store.specs.Store.{step_for}
 
 -- The counts of all links after the links of a row's way are stepped.
 unfoldable pub stepped_way : (up : Bool) → ℕ → Row → List ℕ → List ℕ
-stepped_way up n r counts = build most-links (λ p. step_for up n r p (get_or counts p 0))
+stepped_way up n r counts = build most_links (λ p. step_for up n r p (get_or counts p 0))
 
 -- An area with the counts of a row's way stepped, on a ring of n nodes.
 unfoldable pub way_stepped : (up : Bool) → ℕ → Row → List ℕ → List ℕ
 way_stepped up n r s =
-    take loads_begin s ++ (stepped_way up n r (take most-links (drop loads_begin s)) ++ drop rows_begin s)
+    take loads_begin s ++ (stepped_way up n r (take most_links (drop loads_begin s)) ++ drop rows_begin s)
 
 -- An area with a row put at place i.
 unfoldable pub row_put : ℕ → Row → List ℕ → List ℕ
@@ -22,13 +22,13 @@ row_put i r s = take (row_place i) s ++ (row_numbers r ++ drop (row_place (suc i
 -- An area with room for one row more.
 pub record Roomy (s : List ℕ) : Type 0 where
   pub whole : length s ≡ room
-  pub on_ring : nodes_in s ≤ most-links
-  pub more : count_in s < most-rows
+  pub on_ring : nodes_in s ≤ most_links
+  pub more : count_in s < most_rows
 
 -- An area with a row k.
 pub record There (s : List ℕ) (k : ℕ) : Type 0 where
   pub whole : length s ≡ room
-  pub on_ring : nodes_in s ≤ most-links
-  pub few : count_in s ≤ most-rows
+  pub on_ring : nodes_in s ≤ most_links
+  pub few : count_in s ≤ most_rows
   pub first : 1 ≤ k
   pub last : k ≤ count_in s

@@ -2,7 +2,7 @@
 -- crates/area/specs/Area.antt.
 use Rattle.std.specs.Prelude.{ℕ, suc, ◌+◌, ◌-◌, min, Bool, true, false, cond, List, [], ◌∷◌, ◌++◌, take, drop, replicate}
 use Rattle.table.specs.declared.Row.{Row}
-use Rattle.area.specs.Area.{row-width, row_place, crosses, laid, nodes_in, count_in, load_in, row_in, rows_in}
+use Rattle.area.specs.Area.{row_width, row_place, crosses, laid, nodes_in, count_in, load_in, row_in, rows_in}
 use Rattle.edit_judge.specs.Judge.{Edit, Add, Change, Remove}
 
 -- The rows after an edit that is good: removing closes the gap.
@@ -30,7 +30,7 @@ load_after s (Remove k) p = step_for false (nodes_in s) (row_in s (k - 1)) p (lo
 unfoldable pub behind_after : List ℕ → Edit → List ℕ
 behind_after s (Add r) = drop (row_place (suc (count_in s))) s
 behind_after s (Change k r) = drop (row_place (count_in s)) s
-behind_after s (Remove k) = replicate row-width 0 ++ drop (row_place (count_in s)) s
+behind_after s (Remove k) = replicate row_width 0 ++ drop (row_place (count_in s)) s
 
 -- The area after an edit that is good.
 unfoldable pub edited : List ℕ → Edit → List ℕ

@@ -2,8 +2,8 @@
 #![tactic(auto)]
 
 ghost use Rattle.std.specs.Prelude.{◌≡◌, ◌++◌, map, ◌≤◌, ◌<◌, length, drop, replicate};
-ghost use Rattle.table.specs.Table.{most-rows, row_numbers};
-ghost use Rattle.area.specs.Area.{most-links, row-width, room};
+ghost use Rattle.table.specs.Table.{most_rows, row_numbers};
+ghost use Rattle.area.specs.Area.{most_links, row_width, room};
 ghost use Rattle.edit_judge.specs.Judge.{Add, Change, Remove};
 ghost use Rattle.edit_store.specs.Store.{step_by, edited};
 ghost use Rattle.edit_store.specs.Steps.{Roomy, There, stepped_way, way_stepped, row_put};
@@ -41,7 +41,7 @@ fn step_all(part: &mut [u16], step: u16, up: bool)
 
 // Steps the counts of the links on a row's way by its cells: one stretch of links, or two where it passes node 0.
 fn step_way(nodes: u16, row: Row, up: bool, load: &mut [u16])
-    requires { (nodes ≤ most-links) × (length load.old ≡ most-links) }
+    requires { (nodes ≤ most_links) × (length load.old ≡ most_links) }
     ensures { load.new ≡ stepped_way up nodes row load.old }
 {
     let end = nodes as usize;
@@ -57,7 +57,7 @@ fn step_way(nodes: u16, row: Row, up: bool, load: &mut [u16])
 
 // Steps the loads of the links on a row's way.
 fn step_loads(table: &mut [u16], nodes: u16, row: Row, up: bool)
-    requires { (length table.old ≡ room) × (nodes ≤ most-links) }
+    requires { (length table.old ≡ room) × (nodes ≤ most_links) }
     ensures { table.new ≡ way_stepped up nodes row table.old }
 {
     step_way(nodes, row, up, &mut table[LOADS_BEGIN..ROWS_BEGIN]);
@@ -65,7 +65,7 @@ fn step_loads(table: &mut [u16], nodes: u16, row: Row, up: bool)
 
 // Writes the numbers of a row.
 fn put_numbers(part: &mut [u16], row: Row)
-    requires { length part.old ≡ row-width }
+    requires { length part.old ≡ row_width }
     ensures { part.new ≡ row_numbers row }
 {
     part[0] = row.src;
@@ -76,7 +76,7 @@ fn put_numbers(part: &mut [u16], row: Row)
 
 // Puts a row at a place of the table, counted from 0.
 fn put_row(table: &mut [u16], i: usize, row: Row)
-    requires { (length table.old ≡ room) × (i < most-rows) }
+    requires { (length table.old ≡ room) × (i < most_rows) }
     ensures { table.new ≡ row_put i row table.old }
 {
     let at = ROWS_BEGIN + ROW_WIDTH * i;
@@ -85,8 +85,8 @@ fn put_row(table: &mut [u16], i: usize, row: Row)
 
 // Takes the first row out of a stretch of rows, moves the later ones down one number, and leaves zeros behind them.
 fn close_gap(part: &mut [u16])
-    requires { row-width ≤ length part.old }
-    ensures { part.new ≡ drop row-width part.old ++ replicate row-width 0 }
+    requires { row_width ≤ length part.old }
+    ensures { part.new ≡ drop row_width part.old ++ replicate row_width 0 }
 {
     let last = part.len() - ROW_WIDTH;
     let mut i = 0;

@@ -16,17 +16,17 @@ use Rattle.cells.specs.Rows.{Freight, owners, cell_links, RowSchedule}
 use Rattle.cells.specs.Cells.{cell_traffic}
 use Rattle.cells.specs.Steps.{Laden}
 use Rattle.cells.proofs.Seats.{first_cell, Seat, seat, cell_known, rows_apart}
-use Rattle.best.proofs.Order.{links-long, laid_on_ring, seat_owner, seat_links, seat_dst, seat_due}
+use Rattle.best.proofs.Order.{links_long, laid_on_ring, seat_owner, seat_links, seat_dst, seat_due}
 use Rattle.best.proofs.Best.{cell_dues_lem, rows_late_iff_none}
 use Rattle.jam.specs.Jam.{crosses_before, how_many, overfull}
 use Rattle.jam.specs.Members.{of_row}
 use Rattle.jam.proofs.Links.{Has, still_overfull, fewest, late_iff_found}
 
 -- One that passes the test is counted.
-some-counted : (m : ℕ) (test : ℕ → Bool) (c : ℕ) → c < m → test c ≡ true → 0 < how_many m test
+some_counted : (m : ℕ) (test : ℕ → Bool) (c : ℕ) → c < m → test c ≡ true → 0 < how_many m test
 unfolding how_many
-some-counted zero test c l e = absurd (omega arith)
-some-counted (suc m) test c l e = go (dec_lt c m) (some-counted m test c)
+some_counted zero test c l e = absurd (omega arith)
+some_counted (suc m) test c l e = go (dec_lt c m) (some_counted m test c)
   where
     go : Dec (c < m) → (c < m → test c ≡ true → 0 < how_many m test) → 0 < cond (test m) 1 0 + how_many m test
     go (yes d) more = omega (arith, more d e)
@@ -59,7 +59,7 @@ module _ {F : Freight} {p b : ℕ} {F₂ : Freight} {at : ℕ → ℕ} (among : 
   module _ (c : ℕ) (known : c < length (cell_links F))
       (member : crosses_before (cell_traffic F) (cell_links F) p b c ≡ true) where
     its_seat : Seat F.len c
-    its_seat = seat F.len c (omega (arith, links-long F))
+    its_seat = seat F.len c (omega (arith, links_long F))
 
     its_row : row_now c ≡ its_seat.row
     its_row = ap pred (seat_owner F its_seat)
@@ -67,7 +67,7 @@ module _ {F : Freight} {p b : ℕ} {F₂ : Freight} {at : ℕ → ℕ} (among : 
     counts : 0 < of_row F p b its_seat.row
     unfolding of_row
     counts =
-        some-counted (length (cell_links F)) (λ d.
+        some_counted (length (cell_links F)) (λ d.
         eqb (get_or (owners F) d 0) (suc its_seat.row) && crosses_before (cell_traffic F) (cell_links F) p b d) c known
         (rw (eq-eqb (get_or (owners F) c 0) (suc its_seat.row) (seat_owner F its_seat)) member)
 
@@ -84,7 +84,7 @@ module _ {F : Freight} {p b : ℕ} {F₂ : Freight} {at : ℕ → ℕ} (among : 
     known_there : cell_there c < length (cell_links F₂)
     known_there =
         let s = seat_there in
-        omega (arith, s.is, cell_known F₂.len s.row s.place s.known s.in_row, links-long F₂)
+        omega (arith, s.is, cell_known F₂.len s.row s.place s.known s.in_row, links_long F₂)
 
     dst_there : get_or (cell_traffic F₂).dst (cell_there c) 0 ≡ get_or (cell_traffic F).dst c 0
     unfolding seat_there

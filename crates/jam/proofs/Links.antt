@@ -1,7 +1,7 @@
 -- A table of cells is late just where some link is overfull: more cells must cross it before some slot than there are
 -- slots before it.
 --     starts_at_once        where too many cells cannot be at a link for k slots, a link further back is overfull
---     overfull-none         where a link is overfull no legal schedule meets the table
+--     overfull_none         where a link is overfull no legal schedule meets the table
 --     fewest                where a link is overfull the search finds a jam of no more cells
 --     late_iff_found        the rule's run ends late just where the search finds a jam
 --     Has                   the cells of an overfull link are cells of another table too
@@ -28,7 +28,7 @@ use Rattle.optimal.proofs.Optimal.{ring_window_after, window_not_late, window_of
 use Rattle.jam.specs.declared.Jam.{Jam}
 use Rattle.jam.specs.Jam.{crosses_before, crossing, overfull, the_jam}
 use Rattle.jam.proofs.Tally.{Crosses, crosses, crosses_must, must_crosses, crossing_is}
-use Rattle.jam.proofs.Search.{NoMoreThan, jam-found, jam_fewest}
+use Rattle.jam.proofs.Search.{NoMoreThan, jam_found, jam_fewest}
 
 module _ {T : Traffic} {start : List ℕ} (ring : OnRing T start) where
   over_more : (p b : ℕ) → overfull T start p b ≡ true → b < count (length start) (crosses T start p 0 b)
@@ -94,10 +94,10 @@ module _ {T : Traffic} {start : List ℕ} (ring : OnRing T start) where
     found = the_jam T start slots
 
     -- Where a link is overfull no legal schedule meets the table.
-    pub overfull-none : (p b : ℕ) → p < T.nodes → overfull T start p b ≡ true
+    pub overfull_none : (p b : ℕ) → p < T.nodes → overfull T start p b ≡ true
         → (schedule : List ℕ) → Schedule T start slots schedule → ⊥
     unfolding left_at Meets
-    overfull-none p b inside e schedule meeting =
+    overfull_none p b inside e schedule meeting =
         let window : RingWindow T 0 start
         = window_of_run T (left_at T start schedule) (named_in T schedule) (λ t. refl) ring slots dues
         (λ i known. let met = meeting.meets i known in (met.0, met.1, met.2)) slots 0 (omega arith) in
@@ -147,8 +147,8 @@ module _ {T : Traffic} {start : List ℕ} (ring : OnRing T start) where
 
     found_none : 0 < found.cells → (schedule : List ℕ) → Schedule T start slots schedule → ⊥
     found_none some =
-        let it = jam-found T start slots some in
-        overfull-none found.link.0 found.before.0 it.link_inside it.too_many
+        let it = jam_found T start slots some in
+        overfull_none found.link.0 found.before.0 it.link_inside it.too_many
 
     -- The rule's run ends late just where a jam is found.
     pub late_iff_found : ((stop_of T start slots).row ≡ 0 → ⊥) ↔ (0 < found.cells)

@@ -16,17 +16,17 @@ use lib.Dec.{eqb, eqb-zero-suc, eqb-suc-zero, eqb-suc-suc}
 use lib.ListN.{length, get_or}
 use Rattle.lists.specs.Lists.{build, total}
 use Rattle.lists.proofs.Build.{build_ext}
-use Rattle.lists.proofs.Sums.{total_both, total-same}
+use Rattle.lists.proofs.Sums.{total_both, total_same}
 use Rattle.slack.specs.Slack.{Traffic, OnRing, stop_of}
 use Rattle.cells.specs.Rows.{Freight, owners, cell_links, RowSchedule}
 use Rattle.cells.specs.Cells.{cell_traffic, row_plan}
 use Rattle.cells.specs.Steps.{Laden}
 use Rattle.cells.proofs.Seats.{seat}
-use Rattle.best.proofs.Order.{links-long, laid_on_ring, seat_owner}
+use Rattle.best.proofs.Order.{links_long, laid_on_ring, seat_owner}
 use Rattle.best.proofs.Best.{cell_dues_lem, told_is_schedule, rows_late_iff_none}
 use Rattle.jam.specs.Jam.{crosses_before, how_many, crossing, overfull, the_jam}
 use Rattle.jam.specs.Members.{row_jam, of_row, members_of}
-use Rattle.jam.proofs.Search.{jam-found}
+use Rattle.jam.proofs.Search.{jam_found}
 use Rattle.jam.proofs.Links.{fewest, late_iff_found}
 
 module _ {F : Freight} {slots : ℕ} (laden : Laden F)
@@ -72,14 +72,14 @@ module _ {F : Freight} {slots : ℕ} (laden : Laden F)
           go (no late) =
               let p = (the_jam T start slots).link.0 in
               let b = (the_jam T start slots).before.0 in
-              let found = jam-found T start slots ((late_iff_found ring in_time).0 late) in
+              let found = jam_found T start slots ((late_iff_found ring in_time).0 late) in
               let more = ltb-true b (crossing T start p b) found.too_many in
               absurd (omega (arith, more, room p b found.link_inside))
 
 -- ---- the members
 
 none_of : (m : ℕ) → total (build {A = ℕ} m (λ i. 0)) ≡ 0
-none_of m = total-same m 0 ∙ mul-zero m
+none_of m = total_same m 0 ∙ mul-zero m
 
 one_further : (n o : ℕ) (t : Bool) → total (build n (λ i. cond (eqb (suc o) (suc i) && t) 1 0))
     ≡ total (build n (λ i. cond (eqb o i && t) 1 0))
@@ -123,5 +123,5 @@ unfolding members_of of_row crossing
 members_sum F p b =
     by_rows (length F.len) (λ c. get_or (owners F) c 0) (crosses_before (cell_traffic F) (cell_links F) p b)
     (length (cell_links F)) (λ c l.
-    let s = seat F.len c (omega (arith, links-long F)) in
+    let s = seat F.len c (omega (arith, links_long F)) in
     (s.row, s.known, seat_owner F s))

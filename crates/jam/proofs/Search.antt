@@ -1,6 +1,6 @@
 -- What the search over all links and slots finds is an overfull link, and no overfull link has fewer cells.
 --     Found           what is known of a jam that is found
---     jam-found       a jam with cells is one
+--     jam_found       a jam with cells is one
 --     NoMoreThan      a jam has cells, and no more than so many
 --     jam_fewest      where a link is overfull the search finds a jam of no more cells
 -- Assumes nothing.
@@ -92,9 +92,9 @@ module _ (T : Traffic) (start : List ℕ) (slots : ℕ) where
       (first_found p (omega arith) (suc slots) 0 (omega arith))
 
   -- A jam with cells is an overfull link.
-  pub jam-found : 0 < (the_jam T start slots).cells → Found (the_jam T start slots)
+  pub jam_found : 0 < (the_jam T start slots).cells → Found (the_jam T start slots)
   unfolding the_jam
-  jam-found = below_found T.nodes (omega arith)
+  jam_found = below_found T.nodes (omega arith)
 
   module _ (p b : ℕ) (too_many : overfull T start p b ≡ true)
       (more : (b₁ : ℕ) → b₁ ≤ b → crossing T start p b₁ ≤ crossing T start p b) where

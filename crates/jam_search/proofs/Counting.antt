@@ -3,7 +3,7 @@
 --     count_before, count_next                 the cells that must cross before one slot more
 --     count_few                               they are no more than there are
 --     ends-length, ends_entry                 the list of the counts by end
---     note_asks, due-small, skipped           a cell that is noted, and one that does not cross
+--     note_asks, due_small, skipped           a cell that is noted, and one that does not cross
 --     end_inside, count_small, counted        one that does
 --     Noted, noted_none, noted_more           cells noted one after the other
 --     noted_length, can_note, noted_all       what is known of their counts
@@ -110,9 +110,9 @@ module _ (T : Traffic) (start : List ℕ) (p : ℕ) where
 
   -- ---- the counts by end
 
-  ends-none : (size n : ℕ) → n ≡ size → replicate {A = ℕ} n 0 ≡ ends T start p size 0
+  ends_none : (size n : ℕ) → n ≡ size → replicate {A = ℕ} n 0 ≡ ends T start p size 0
   unfolding ends how_many
-  ends-none size n e = rw e (sym (build_const size 0))
+  ends_none size n e = rw e (sym (build_const size 0))
 
   -- There is a count for each end.
   pub ends-length : (size i : ℕ) → length (ends T start p size i) ≡ size
@@ -153,8 +153,8 @@ module _ {T : Traffic} {start : List ℕ} {p i : ℕ} {counts : List ℕ} (h : N
   note_asks = (h.inside, h.searched.ring.dst_inside i h.known)
 
   -- The cell's due slot is at most 1,024.
-  pub due-small : get_or T.due i 0 < 1025
-  due-small = omega (arith, h.searched.dues i h.known, h.searched.short)
+  pub due_small : get_or T.due i 0 < 1025
+  due_small = omega (arith, h.searched.dues i h.known, h.searched.short)
 
   module _ (o : ℕ) (is : o ≡ distance T.nodes p (get_or T.dst i 0)) where
     -- A cell that does not have to cross is counted nowhere.
@@ -196,7 +196,7 @@ pub record Noted (T : Traffic) (start : List ℕ) (p size i : ℕ) (counts : Lis
 pub noted_none : {T : Traffic} {start : List ℕ} {p : ℕ} {cleared : List ℕ} (size : ℕ)
     → cleared ≡ replicate {A = ℕ} size 0 → Noted T start p (length cleared) 0 cleared
 noted_none {T} {start} {p} {cleared} size e =
-    record { are = e ∙ ends-none T start p (length cleared) size (sym (cleared_length size 0 cleared e)) }
+    record { are = e ∙ ends_none T start p (length cleared) size (sym (cleared_length size 0 cleared e)) }
 
 module _ {T : Traffic} {start : List ℕ} {p size i : ℕ} {counts : List ℕ} (so_far : Noted T start p size i counts) where
   -- There is a count for each end.

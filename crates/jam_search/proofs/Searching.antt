@@ -1,5 +1,5 @@
 -- The search, slot by slot and link by link.
---     Counted, all_counted, counted-length      the counts of all cells of one link
+--     Counted, all_counted, counted_length      the counts of all cells of one link
 --     Scanned, scanned_none, scanned_end        the scan of its slots, at the first and behind the last
 --     count_inside, sum_small                   what one slot asks
 --     scanned_here, scanned_more                and what it gives
@@ -67,9 +67,9 @@ pub all_counted : {T : Traffic} {start : List ℕ} {p slots size : ℕ} {counts 
 all_counted searched e are = record { few = searched.few; are = are ∙ rw e }
 
 -- There is a count for each slot up to the last due slot.
-pub counted-length : {T : Traffic} {start : List ℕ} {p slots : ℕ} {counts : List ℕ} → Counted T start p slots counts
+pub counted_length : {T : Traffic} {start : List ℕ} {p slots : ℕ} {counts : List ℕ} → Counted T start p slots counts
     → length counts ≡ suc slots
-counted-length {T} {start} {p} {slots} counted =
+counted_length {T} {start} {p} {slots} counted =
     ap length counted.are ∙ ends-length T start p (suc slots) (length start)
 
 -- The scan has come to slot b, and the link is overfull before none of the slots in front of it.
@@ -93,7 +93,7 @@ module _ {T : Traffic} {start : List ℕ} {p slots b cells : ℕ} (scanned : Sca
   module _ {counts : List ℕ} (counted : Counted T start p slots counts) (inside : b ≤ slots) where
     -- There is a count for slot b.
     pub count_inside : b < length counts
-    count_inside = omega (arith, counted-length counted)
+    count_inside = omega (arith, counted_length counted)
 
     sum_is : cells + get_or counts b 0 ≡ crossing T start p b
     sum_is =

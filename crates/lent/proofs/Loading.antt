@@ -1,5 +1,5 @@
 -- The columns of a list of rows, as they are loaded and as they are written back: row by row.
---     columns-more                one more row is one more entry set in each column
+--     columns_more                one more row is one more entry set in each column
 --     columns_all                 all rows, or the first 512, are enough
 --     front_none, front_long, front_more      rows of the columns, written to the front of a list one by one
 -- Assumes nothing.
@@ -21,9 +21,9 @@ use Rattle.table.specs.Steps.{none, column, columns, listed, sources}
 use Rattle.table.proofs.Rows.{column_at, length-map, row_of, length-listed}
 
 -- ---- one column
-column-long : (xs : List ℕ) → length (column xs) ≡ 512
+column_long : (xs : List ℕ) → length (column xs) ≡ 512
 unfolding column
-column-long xs =
+column_long xs =
     omega (
       arith,
       length-take 512 (xs ++ replicate 512 0),
@@ -40,12 +40,12 @@ take_other (x ∷ xs) zero (suc j) h = refl
 take_other (x ∷ xs) (suc i) zero h = refl
 take_other (x ∷ xs) (suc i) (suc j) h = take_other xs i j (λ e. h (ap suc e))
 
-column-more : (xs : List ℕ) (i : ℕ) → i < 512 → column (take (suc i) xs) ≡ set (column (take i xs)) i (get_or xs i 0)
-column-more xs i small =
+column_more : (xs : List ℕ) (i : ℕ) → i < 512 → column (take (suc i) xs) ≡ set (column (take i xs)) i (get_or xs i 0)
+column_more xs i small =
     ext_get_or 0 (column (take (suc i) xs)) (set (column (take i xs)) i (get_or xs i 0))
-    (column-long (take (suc i) xs)
-    ∙ sym (length-set (column (take i xs)) i (get_or xs i 0) ∙ column-long (take i xs)))
-    (λ j l. go j (omega (arith, column-long (take (suc i) xs))) (eqb j i) refl)
+    (column_long (take (suc i) xs)
+    ∙ sym (length-set (column (take i xs)) i (get_or xs i 0) ∙ column_long (take i xs)))
+    (λ j l. go j (omega (arith, column_long (take (suc i) xs))) (eqb j i) refl)
   where
     go : (j : ℕ) → j < 512 → (t : Bool) → eqb j i ≡ t
         → get_or (column (take (suc i) xs)) j 0 ≡ get_or (set (column (take i xs)) i (get_or xs i 0)) j 0
@@ -55,7 +55,7 @@ column-more xs i small =
           s,
           column_at (take (suc i) xs) i small,
           get_or-take (suc i) xs i 0 (omega arith),
-          get_or-set_same (column (take i xs)) i (get_or xs i 0) 0 (omega (arith, column-long (take i xs))),
+          get_or-set_same (column (take i xs)) i (get_or xs i 0) 0 (omega (arith, column_long (take i xs))),
         )
     go j l false e =
         column_at (take (suc i) xs) j l ∙ take_other xs i j (eqb-false j i e) ∙ sym (column_at (take i xs) j l)
@@ -90,7 +90,7 @@ map-take {A} {B} f (suc i) (x ∷ xs) = ap {B = List B} (λ l. f x ∷ l) (map-t
 of_more : (f : Row → ℕ) → f none ≡ 0 → (rows : List Row) (i : ℕ) → i < 512
     → column (map f (take (suc i) rows)) ≡ set (column (map f (take i rows))) i (f (get_or rows i none))
 of_more f z rows i small =
-    ap column (map-take f (suc i) rows) ∙ column-more (map f rows) i small
+    ap column (map-take f (suc i) rows) ∙ column_more (map f rows) i small
     ∙ rw (sym (map-take f i rows), sym (get_or-map f rows i none), z)
 
 of_all : (f : Row → ℕ) (rows : List Row) → column (map f (take (min (length rows) 512) rows)) ≡ column (map f rows)
@@ -107,10 +107,10 @@ stored c i r = record {
   due = set c.due i r.due;
 }
 
-pub columns-more : (rows : List Row) (i : ℕ) → i < 512
+pub columns_more : (rows : List Row) (i : ℕ) → i < 512
     → columns (take (suc i) rows) ≡ stored (columns (take i rows)) i (get_or rows i none)
 unfolding columns sources destinations lengths dues
-columns-more rows i small =
+columns_more rows i small =
     cc (
       of_more (λ r. r.src) refl rows i small,
       of_more (λ r. r.dst) refl rows i small,

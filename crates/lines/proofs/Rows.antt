@@ -13,7 +13,7 @@ use native.Mathlib.Omega.{arith}
 use borrow.Author.Tests.{lt-ltb, le-ltb}
 use lib.ListN.{length, get_or, set, take, drop, length-set, length-drop, length-append, drop_of_length-le}
 use lib.Seq.{drop-cons, take-suc-set, take_all, append_snoc}
-use Rattle.text.specs.Text.{line_feed, row-keys, row_text, line_good, line_rest, values_at, behind_lines, wrong_line}
+use Rattle.text.specs.Text.{line_feed, row_keys, row_text, line_good, line_rest, values_at, behind_lines, wrong_line}
 use Rattle.text.specs.Text.{row_at}
 use Rattle.text.proofs.RowLaws.{made, Right, row_stands}
 use Rattle.lines.proofs.Seen.{Seen}
@@ -21,9 +21,9 @@ use Rattle.lines.specs.declared.RowSeen.TheVariants.{Whole, Broken}
 use Rattle.lines.specs.Items.{right_lines, row_seen}
 
 -- A row has at least one line, and at most sixteen.
-pub row-lines : (1 ≤ length row-keys) × (length row-keys ≤ 16)
-unfolding row-keys
-row-lines = (omega arith, omega arith)
+pub row_lines : (1 ≤ length row_keys) × (length row_keys ≤ 16)
+unfolding row_keys
+row_lines = (omega arith, omega arith)
 
 pub right_all : (keys : List (List ℕ)) (text : List ℕ) → length keys ≤ right_lines keys text → Right keys text
 unfolding right_lines
@@ -106,21 +106,21 @@ module _ {keys : List (List ℕ)} {text : List ℕ} {at : ℕ} {vs : List ℕ} {
     unfolding values_at
     all_said = k.said ∙ rw (no_keys, append-nil) (take_all j vs (omega (arith, k.long)))
 
-module _ {text : List ℕ} {at : ℕ} {vs : List ℕ} {next j : ℕ} (k : Reached row-keys text at vs next j) where
-  pub answers_broken : j < length row-keys → line_good (get_or row-keys j []) (drop next text) ≡ false
+module _ {text : List ℕ} {at : ℕ} {vs : List ℕ} {next j : ℕ} (k : Reached row_keys text at vs next j) where
+  pub answers_broken : j < length row_keys → line_good (get_or row_keys j []) (drop next text) ≡ false
       → Broken j ≡ row_seen text at
   unfolding row_seen
-  answers_broken more e = rw (stopped k more e, lt-ltb j (length row-keys) more)
+  answers_broken more e = rw (stopped k more e, lt-ltb j (length row_keys) more)
 
-  pub answers_whole : length row-keys ≤ j → at ≤ length text → Whole (made vs) next ≡ row_seen text at
+  pub answers_whole : length row_keys ≤ j → at ≤ length text → Whole (made vs) next ≡ row_seen text at
   unfolding row_seen row_at
   answers_whole done h =
       let from = drop at text in
-      let right = right_all row-keys from (all_right k done) in
+      let right = right_all row_keys from (all_right k done) in
       let row : made vs ≡ row_at from = ap made (sym (all_said k done)) in
       let stands = ap length (row_stands from right)
-      ∙ length-append (row_text (row_at from)) (behind_lines row-keys from) in
-      let rest : length (behind_lines row-keys from) ≡ length text - next = ap length (all_past k done)
+      ∙ length-append (row_text (row_at from)) (behind_lines row_keys from) in
+      let rest : length (behind_lines row_keys from) ≡ length text - next = ap length (all_past k done)
       ∙ length-drop next text in
       let place : next ≡ at + length (row_text (row_at from)) = omega (arith, stands, length-drop at text, k.inside) in
-      cc (row, place, le-ltb (right_lines row-keys from) (length row-keys) (all_right k done))
+      cc (row, place, le-ltb (right_lines row_keys from) (length row_keys) (all_right k done))

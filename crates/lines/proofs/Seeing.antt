@@ -1,6 +1,6 @@
 -- What `item_at` sees at a place of a text.
 --     no_key, too_great, not_canonical, no_end, other_end, good_line   by the key, the digits and the byte behind them
---     key_inside, figures-inside, seen_great, seen_other, seen_no_end, seen_other_end, seen_good   by what `key_at`,
+--     key_inside, figures_inside, seen_great, seen_other, seen_no_end, seen_other_end, seen_good   by what `key_at`,
 --     `figures_at` and `width_of` answer
 -- Assumes nothing.
 use mathlib.Core.Path.{◌≡◌, refl, ◌∙◌, ap, sym}
@@ -12,7 +12,7 @@ use borrow.Author.Tests.{le-leb, lt-leb, eq-eqb, ne_eqb}
 use lib.ListN.{length, get_or, drop, drop_of_length-le, length-drop, length-append}
 use lib.Seq.{drop-cons, drop-drop}
 use Rattle.text.specs.Text.{width, numeral, item, starts, is_digit, digits_at, extended, item_value, item_good}
-use Rattle.text.proofs.Numeral.{numeral-length, numeral_digits, numeral_again, width-most, digits_read, digits_are}
+use Rattle.text.proofs.Numeral.{numeral-length, numeral_digits, numeral_again, width_most, digits_read, digits_are}
 use Rattle.text.proofs.Numeral.{digits_stand}
 use Rattle.text.proofs.Front.{starts_self, starts_true, starts_join}
 use Rattle.text.proofs.Lines.{item-length}
@@ -55,7 +55,7 @@ module _ (key : List ℕ) (mark : ℕ) (text : List ℕ) (at : ℕ) where
       let so : here ≡ numeral v ++ (mark ∷ drop (length (numeral v ++ (mark ∷ []))) here) =
       starts_true (numeral v ++ (mark ∷ [])) here e ∙ simp append_assoc in
       ap (digits_at 5) so ∙ digits_read 5 (numeral v) mark (drop (length (numeral v ++ (mark ∷ []))) here) no_digit
-      (numeral_digits v) (rw (numeral-length v) (width-most v))
+      (numeral_digits v) (rw (numeral-length v) (width_most v))
 
   pub not_canonical : is_digit mark ≡ false → (length figures ≡ width (extended 0 figures) → ⊥)
       → Wrong ≡ item_seen key mark text at
@@ -144,8 +144,8 @@ module _ (key : List ℕ) (mark : ℕ) (text : List ℕ) (at : ℕ) (f : Figures
   unfolding figures_in
   count_is = ap (λ (g : Figures). g.count) read ∙ rw (drop-drop (length key) at text)
 
-  pub figures-inside : at + length key ≤ length text → at + length key + f.count ≤ length text
-  figures-inside h =
+  pub figures_inside : at + length key ≤ length text → at + length key + f.count ≤ length text
+  figures_inside h =
       let here_is = here key mark text at in
       let so : length here_is ≡ length (figures key mark text at) + length
       (drop (length (figures key mark text at)) here_is) = ap length (digits_stand 5 here_is)

@@ -1,6 +1,6 @@
 -- An item that `item_at` found.
 --     Seen                     a number of a key and a mark stands at a place, with its value and the place behind it
---     not_seen, seen-item      what each answer of `item_at` says
+--     not_seen, seen_item      what each answer of `item_at` says
 -- Assumes nothing.
 use mathlib.Core.Path.{◌≡◌, refl, ◌∙◌, ap, sym}
 use mathlib.Core.Bool.{Bool, true, false}
@@ -46,9 +46,9 @@ module _ (key : List ℕ) (mark : ℕ) (text : List ℕ) (at : ℕ) (l : Item) (
       go true e = absurd (never_both (sym (good_is e) ∙ w))
       go false e = e
 
-  pub seen-item : (v n : ℕ) → at ≤ length text → l ≡ Good v n → Seen key mark text at v n
+  pub seen_item : (v n : ℕ) → at ≤ length text → l ≡ Good v n → Seen key mark text at v n
   unfolding item_rest
-  seen-item v n h g = go (item_good key mark from) refl
+  seen_item v n h g = go (item_good key mark from) refl
     where
       go : (b : Bool) → item_good key mark from ≡ b → Seen key mark text at v n
       go false e = absurd (never_both (sym g ∙ wrong_is e))

@@ -1,6 +1,6 @@
 -- What stands at a place of a text: digits, a number behind a key up to its mark, a line, and the lines of a row.
 use Rattle.std.specs.Prelude.{ℕ, suc, ◌+◌, cond, List, [], ◌∷◌, ltb, length, drop}
-use Rattle.text.specs.Text.{line_feed, item, row-keys, row_text, digits_at, extended, item_value, item_good, line_good}
+use Rattle.text.specs.Text.{line_feed, item, row_keys, row_text, digits_at, extended, item_value, item_good, line_good}
 use Rattle.text.specs.Text.{line_rest, row_at}
 use Rattle.lines.specs.declared.Figures.{Figures}
 use Rattle.lines.specs.declared.Item.{Item}
@@ -33,5 +33,5 @@ right_lines (k ∷ ks) text = cond (line_good k text) (suc (right_lines ks (line
 unfoldable pub row_seen : (text : List ℕ) (at : ℕ) → RowSeen
 row_seen text at =
     let from = drop at text in
-    let right = right_lines row-keys from in
-    cond (ltb right (length row-keys)) (Broken right) (Whole (row_at from) (at + length (row_text (row_at from))))
+    let right = right_lines row_keys from in
+    cond (ltb right (length row_keys)) (Broken right) (Whole (row_at from) (at + length (row_text (row_at from))))

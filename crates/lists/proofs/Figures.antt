@@ -1,7 +1,7 @@
 -- The sum and the largest entry of a list, one entry further on.
---     total-more, largest-more      of the first i + 1 entries, from those of the first i
+--     total_more, largest_more      of the first i + 1 entries, from those of the first i
 --     total_below                   a sum of entries that are each at most m
---     at_most-largest               no entry is above the largest
+--     at_most_largest               no entry is above the largest
 --     largest_below                 entries that are each at most m
 -- Assumes nothing.
 use mathlib.Core.Path.{◌≡◌}
@@ -26,12 +26,12 @@ largest-suc [] i h = absurd (not-suc-le-zero h)
 largest-suc (x ∷ xs) zero h = omega arith
 largest-suc (x ∷ xs) (suc i) h = omega (arith, largest-suc xs i (le_of_suc-le-suc h))
 
-pub total-more : (xs : List ℕ) (i : ℕ) → i < length xs → total (take (i + 1) xs) ≡ total (take i xs) + get_or xs i 0
-total-more xs i h = rw add-one (total-suc xs i h)
+pub total_more : (xs : List ℕ) (i : ℕ) → i < length xs → total (take (i + 1) xs) ≡ total (take i xs) + get_or xs i 0
+total_more xs i h = rw add-one (total-suc xs i h)
 
-pub largest-more : (xs : List ℕ) (i : ℕ) → i < length xs
+pub largest_more : (xs : List ℕ) (i : ℕ) → i < length xs
     → largest (take (i + 1) xs) ≡ max (largest (take i xs)) (get_or xs i 0)
-largest-more xs i h = rw add-one (largest-suc xs i h)
+largest_more xs i h = rw add-one (largest-suc xs i h)
 
 pub total_below : (m : ℕ) (xs : List ℕ) → ((i : ℕ) → i < length xs → get_or xs i 0 ≤ m) → total xs ≤ m * length xs
 unfolding total
@@ -39,11 +39,11 @@ total_below m [] h = omega arith
 total_below m (x ∷ xs) h =
     omega (arith, h 0 (omega arith), total_below m xs (λ i l. h (suc i) (omega arith)))
 
-pub at_most-largest : (xs : List ℕ) (i : ℕ) → get_or xs i 0 ≤ largest xs
+pub at_most_largest : (xs : List ℕ) (i : ℕ) → get_or xs i 0 ≤ largest xs
 unfolding largest
-at_most-largest [] i = omega arith
-at_most-largest (x ∷ xs) zero = omega arith
-at_most-largest (x ∷ xs) (suc i) = omega (arith, at_most-largest xs i)
+at_most_largest [] i = omega arith
+at_most_largest (x ∷ xs) zero = omega arith
+at_most_largest (x ∷ xs) (suc i) = omega (arith, at_most_largest xs i)
 
 pub largest_below : (m : ℕ) (xs : List ℕ) → ((i : ℕ) → i < length xs → get_or xs i 0 ≤ m) → largest xs ≤ m
 unfolding largest

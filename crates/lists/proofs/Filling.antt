@@ -1,7 +1,7 @@
 -- A list that is filled from the front by a rule, one store a turn: after i turns it is `build i f ++ drop i d`.
 --     filled_more, filled_all                   one store more; at the end
---     filled-whole                              at the end, the length told by an equation
---     filled-long                               it keeps its length
+--     filled_whole                              at the end, the length told by an equation
+--     filled_long                               it keeps its length
 --     filled_past                               what stands past the stores is as it came
 -- Assumes nothing.
 use mathlib.Core.Path.{◌≡◌, refl, ◌∙◌, ap, sym}
@@ -27,14 +27,14 @@ module _ {ℓ} {A : Type ℓ} where
   pub filled_more : (f : ℕ → A) (d : List A) (i : ℕ) → i < length d → set (filled f d i) i (f i) ≡ filled f d (i + 1)
   filled_more f d i h = rw add-one (filled-suc f d i h)
 
-  pub filled-long : (f : ℕ → A) (d : List A) (i : ℕ) → i ≤ length d → length (filled f d i) ≡ length d
-  filled-long f d i h = length-append (build i f) (drop i d) ∙ omega (arith, length-build i f, length-drop i d)
+  pub filled_long : (f : ℕ → A) (d : List A) (i : ℕ) → i ≤ length d → length (filled f d i) ≡ length d
+  filled_long f d i h = length-append (build i f) (drop i d) ∙ omega (arith, length-build i f, length-drop i d)
 
   pub filled_all : (f : ℕ → A) (d : List A) → filled f d (length d) ≡ build (length d) f
   filled_all f d = rw (drop_of_length-le d {i = length d} (omega arith), append-nil)
 
-  pub filled-whole : (f : ℕ → A) (d : List A) (i n : ℕ) → i ≡ n → length d ≡ n → filled f d i ≡ build n f
-  filled-whole f d i n e h = rw (e, sym h) (filled_all f d)
+  pub filled_whole : (f : ℕ → A) (d : List A) (i n : ℕ) → i ≡ n → length d ≡ n → filled f d i ≡ build n f
+  filled_whole f d i n e h = rw (e, sym h) (filled_all f d)
 
   pub filled_past : (f : ℕ → A) (d : List A) (i j : ℕ) (e : A) → i ≤ j → get_or (filled f d i) j e ≡ get_or d j e
   filled_past f d i j e h =

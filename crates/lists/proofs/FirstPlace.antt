@@ -1,6 +1,6 @@
 -- The first place of a number in a list, and that the largest entry has one.
 --     place_here, place_next, place_end     the search from the front: it is here; it lies further on; it is nowhere
---     place-fits                            the first place is in the list or directly behind it
+--     place_fits                            the first place is in the list or directly behind it
 --     found_there                           the number stands at its first place, where that is in the list
 --     not_before                            it doesn't stand before
 --     place_of                              so a number that the list has stands at its first place
@@ -36,10 +36,10 @@ module _ (x : ℕ) (part : List ℕ) (i : ℕ) where
   place_end h = rw (drop_of_length-le part h) (omega arith)
 
 -- The first place is in the list or directly behind it.
-pub place-fits : (x : ℕ) (l : List ℕ) → first_place x l ≤ length l
+pub place_fits : (x : ℕ) (l : List ℕ) → first_place x l ≤ length l
 unfolding first_place
-place-fits x [] = omega arith
-place-fits x (y ∷ l) = go (eqb x y) (place-fits x l)
+place_fits x [] = omega arith
+place_fits x (y ∷ l) = go (eqb x y) (place_fits x l)
   where
     go : (b : Bool) → first_place x l ≤ length l → cond {A = ℕ} b 0 (suc (first_place x l)) ≤ suc (length l)
     go true h = omega arith

@@ -24,14 +24,14 @@ module _ {ℓ} {A : Type ℓ} where
     pub kept : length written ≡ length (take k places)
 
   module _ {k : ℕ} {places written : List A} (f : Front k places written) where
-    written-long : length written ≡ k
-    written-long = f.kept ∙ sym f.lent
+    written_long : length written ≡ k
+    written_long = f.kept ∙ sym f.lent
 
     pub front_again : take k (written ++ drop k places) ≡ written
-    front_again = take_at written (drop k places) k written-long
+    front_again = take_at written (drop k places) k written_long
 
     pub front_fits : k ≤ length (written ++ drop k places)
-    front_fits = omega (arith, written-long, length-append written (drop k places))
+    front_fits = omega (arith, written_long, length-append written (drop k places))
 
     pub front_as_long : k ≡ length (take k (written ++ drop k places))
-    front_as_long = sym (ap length front_again ∙ written-long)
+    front_as_long = sym (ap length front_again ∙ written_long)

@@ -1,8 +1,8 @@
 -- Sums of lists that rules build, and of two lists one behind the other.
 --     total_joined                  of two lists
 --     total_both, total_times       of two rules added, and of a rule taken m times
---     total-same                    of a rule that gives the same number everywhere
---     total-last                    of one entry more
+--     total_same                    of a rule that gives the same number everywhere
+--     total_last                    of one entry more
 -- Assumes nothing.
 use mathlib.Core.Path.{◌≡◌, ◌∙◌, ap, sym}
 use Prim.Native.Nat.{ℕ, zero, suc, ◌+◌, ◌*◌}
@@ -25,10 +25,10 @@ total_both zero f g = omega arith
 total_both (suc n) f g = omega (arith, total_both n (λ i. f (suc i)) (λ i. g (suc i)))
 
 -- A rule that gives the same number everywhere.
-pub total-same : (n m : ℕ) → total (build n (λ i. m)) ≡ n * m
+pub total_same : (n m : ℕ) → total (build n (λ i. m)) ≡ n * m
 unfolding total
-total-same zero m = omega arith
-total-same (suc n) m = omega (arith, total-same n m, suc-mul n m)
+total_same zero m = omega arith
+total_same (suc n) m = omega (arith, total_same n m, suc-mul n m)
 
 -- A rule taken m times.
 pub total_times : (n m : ℕ) (f : ℕ → ℕ) → total (build n (λ i. m * f i)) ≡ m * total (build n f)
@@ -44,5 +44,5 @@ total-suc zero f = omega arith
 total-suc (suc n) f = omega (arith, total-suc n (λ i. f (suc i)))
 
 -- One entry more.
-pub total-last : (n : ℕ) (f : ℕ → ℕ) → total (build (n + 1) f) ≡ total (build n f) + f n
-total-last n f = rw add-one (total-suc n f)
+pub total_last : (n : ℕ) (f : ℕ → ℕ) → total (build (n + 1) f) ≡ total (build n f) + f n
+total_last n f = rw add-one (total-suc n f)

@@ -2,7 +2,7 @@
 --     accepted_looks      an accepted table's looks are the sum of all its cells' delivery instants
 --     late_looks          a late one's are the undelivered cells at each instant up to and with the one that is named
 --     never_above         no plan takes more looks than was said in advance
---     most-fits           that is at most 1,049,600
+--     most_fits           that is at most 1,049,600
 --     loaded_looks        what is said in advance of loaded rows is said of the rows that were lent
 -- Assumes nothing.
 use mathlib.Core.Path.{◌≡◌, refl, ◌∙◌, ap}
@@ -28,7 +28,7 @@ use Rattle.cells.specs.Cells.{cell_traffic, row_stop, end_by}
 use Rattle.cells.specs.Looks.{looks_to, looks_of, row_looks}
 use Rattle.cells.proofs.Looking.{looks_are_instants, looks_bounded}
 use Rattle.best.proofs.Best.{cell_dues_lem}
-use Rattle.best.proofs.Order.{links-long}
+use Rattle.best.proofs.Order.{links_long}
 use Rattle.planner.specs.declared.Answer.{Answer}
 use Rattle.planner.specs.declared.Answer.TheVariants.{Accepted, Refused}
 use Rattle.planner.specs.declared.Reply.{Reply}
@@ -76,7 +76,7 @@ module _ {n : ℕ} {rows : List Row} {plan arrivals plan' arrivals' : List ℕ} 
 
   bounded : Plannable n rows plan arrivals → the_looks n rows ≤ most_looks n rows
   unfolding the_looks row_looks most_looks if_good cells_in
-  bounded k = rw k.well_formed (rw (links-long F) at (looks_bounded T start (last_due rows)))
+  bounded k = rw k.well_formed (rw (links_long F) at (looks_bounded T start (last_due rows)))
 
   -- No plan takes more looks than was said in advance.
   pub never_above : r.looks ≤ most_looks n rows
@@ -93,9 +93,9 @@ module _ {n : ℕ} {rows : List Row} {plan arrivals plan' arrivals' : List ℕ} 
       go (Refused x) e = late x e (eqb x.number 9) refl
 
 -- 1,024 cells at 1,025 instants: far below 2 ^ 32.
-pub most-fits : (n : ℕ) (rows : List Row) → most_looks n rows ≤ 1049600
+pub most_fits : (n : ℕ) (rows : List Row) → most_looks n rows ≤ 1049600
 unfolding most_looks if_good last_due
-most-fits n rows = go (judge n rows) refl
+most_fits n rows = go (judge n rows) refl
   where
     go : (v : Verdict) → judge n rows ≡ v → if_good v (cells_in rows * suc (last_due rows)) ≤ 1049600
     go verdict.Good e =

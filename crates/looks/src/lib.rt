@@ -21,6 +21,7 @@ fn all_looks(len: &[u16], due: &[u16]) -> u32
 }
 
 // The same for the first `rows` rows of the columns, judged first.
+#[tactic(auto, using(table::proofs::Whole::rows_few, table::proofs::Whole::rows_front))]
 pub fn most_looks_columns(nodes: u16, rows: usize, columns: Columns) -> u32
     ensures { result ≡ most_looks nodes (listed rows columns) }
 {

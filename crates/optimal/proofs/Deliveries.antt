@@ -11,7 +11,7 @@ use mathlib.Core.List.{List}
 use borrow.Author.Tests.{ltb-true, ltb-false}
 use lib.ListN.{length, get_or}
 use Rattle.slack.specs.Slack.{Traffic, under_way, state_at, plan_of, delivered_from, stop_of}
-use Rattle.slack.proofs.Rule.{state-less, none_under_way}
+use Rattle.slack.proofs.Rule.{state_less, none_under_way}
 use Rattle.slack.proofs.Ending.{stop_first, stop_delivered}
 use Rattle.optimal.specs.Schedule.{left_at}
 use Rattle.optimal.proofs.Plan.{plan_state}
@@ -93,4 +93,4 @@ module _ (T : Traffic) (start : List ℕ) where
       there (yes l) = found.there (omega arith)
       there (no l) =
           let late-enough : end ≤ d = omega (arith, (stop_first T start slots).within) in
-          omega (arith, all_there, state-less T start i known end d late-enough)
+          omega (arith, all_there, state_less T start i known end d late-enough)

@@ -12,7 +12,7 @@ use lib.ListN.{length, get_or}
 use Rattle.ring.specs.Ring.{standing}
 use Rattle.ring.proofs.Standing.{one_link_on, at_destination}
 use Rattle.slack.specs.Slack.{Traffic, OnRing, place, moved}
-use Rattle.slack.proofs.Rule.{moved_sent, moved-waits, moved-less}
+use Rattle.slack.proofs.Rule.{moved_sent, moved_waits, moved_less}
 
 module _ (T : Traffic) (slot left : List ℕ) (ring : OnRing T left) (i : ℕ) (known : i < length left) where
   abbrev node : ℕ → ℕ
@@ -28,7 +28,7 @@ module _ (T : Traffic) (slot left : List ℕ) (ring : OnRing T left) (i : ℕ) (
 
   pub unnamed_stays : (get_or slot (place T left i) 0 ≡ suc i → ⊥) → place T (moved T slot left) i ≡ place T left i
   unfolding place
-  unnamed_stays unnamed = ap node (moved-waits T slot left i known unnamed)
+  unnamed_stays unnamed = ap node (moved_waits T slot left i known unnamed)
 
   pub delivered_stands_there : get_or left i 0 ≡ 0 → place T left i ≡ get_or T.dst i 0
   unfolding place
@@ -36,4 +36,4 @@ module _ (T : Traffic) (slot left : List ℕ) (ring : OnRing T left) (i : ℕ) (
       ap node delivered ∙ at_destination T.nodes (get_or T.dst i 0) (ring.dst_inside i known)
 
   pub stays_delivered : get_or left i 0 ≡ 0 → get_or (moved T slot left) i 0 ≡ 0
-  stays_delivered delivered = omega (arith, moved-less T slot left i known)
+  stays_delivered delivered = omega (arith, moved_less T slot left i known)

@@ -26,7 +26,7 @@ use Rattle.slack.proofs.Rule.{
   run_length,
   run_on_ring,
   run_less,
-  state-length,
+  state_length,
   state_on_ring,
 }
 use Rattle.optimal.specs.Schedule.{Schedule, Legal, Meets, named_in, left_at}
@@ -157,7 +157,7 @@ module _ {T : Traffic} {start : List ℕ} {slots : ℕ}
           let picked = sym (slot_entry T t left p inside) ∙ sym slot_names ∙ named in
           let best = pick_least T t left p (length left) i picked in
           rw (plan_state T start slots t (omega arith))
-          (omega (arith, best.inside, best.stands.under_way_lem, best.stands.here, state-length T start t))
+          (omega (arith, best.inside, best.stands.under_way_lem, best.stands.here, state_length T start t))
 
       -- no row is late up to the end of the run
       none : (t : ℕ) → t ≤ end → late_row T t (state_at T start t) ≡ 0
@@ -180,7 +180,7 @@ module _ {T : Traffic} {start : List ℕ} {slots : ℕ}
               rw e (none_under_way (state_at T start end) (stop_delivered T start slots dues on_time) i)
           go (no d) =
               let left = state_at T start (when i) in
-              let inside : i < length left = omega (arith, state-length T start (when i)) in
+              let inside : i < length left = omega (arith, state_length T start (when i)) in
               let not_late = late_none T (when i) left (none (when i) (omega arith)) i inside in
               delivered (get_or left i 0) (λ under_way_lem. omega (arith, not_late_then T (when i) left i not_late under_way_lem))
             where

@@ -12,7 +12,7 @@ use mathlib.Core.List.{List, ◌++◌}
 use lib.ListN.{length, get_or, take, drop, length-drop}
 use lib.Seq.{take-append-le, drop-append-le, drop_at, take_all, get_or-take, get_or-drop}
 use Rattle.slack.specs.Slack.{Traffic, slot_of, pick, state_at, plan_of}
-use Rattle.slack.proofs.Rule.{slot_length, plan_length, slot_entry, state-length}
+use Rattle.slack.proofs.Rule.{slot_length, plan_length, slot_entry, state_length}
 use Rattle.optimal.specs.Schedule.{named_in, left_at}
 
 -- An entry of a slot lies behind the entries of the slots before it, and within its own.
@@ -56,7 +56,7 @@ module _ (T : Traffic) (start : List ℕ) where
       let n = T.nodes in
       sym (get_or-take n (drop (t * n) plan) p 0 inside ∙ get_or-drop (t * n) plan p 0)
       ∙ ap (λ slot. get_or slot p 0) (plan_names slots t early) ∙ slot_entry T t (state_at T start t) p inside
-      ∙ ap (pick T t (state_at T start t) p) (state-length T start t)
+      ∙ ap (pick T t (state_at T start t) p) (state_length T start t)
 
   -- The plan's run is the rule's.
   pub plan_state : (slots t : ℕ) → t ≤ slots → left_at T start (plan_of T start slots) t ≡ state_at T start t

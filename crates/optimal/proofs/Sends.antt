@@ -16,7 +16,7 @@ use lib.Dec.{ltb}
 use lib.ListN.{length, get_or, take}
 use lib.Seq.{take-length, take_all}
 use Rattle.lists.specs.Lists.{total}
-use Rattle.lists.proofs.Figures.{total-more, total_below}
+use Rattle.lists.proofs.Figures.{total_more, total_below}
 use Rattle.slack.specs.Slack.{Traffic, OnRing, place, moved, slot_of, state_at, plan_of, stop_of}
 use Rattle.slack.proofs.Rule.{
   Picked,
@@ -25,32 +25,32 @@ use Rattle.slack.proofs.Rule.{
   slot_length,
   slot_entry,
   moved_length,
-  moved-less,
+  moved_less,
   moved_sent,
   moved_by_one,
   moved_named,
-  state-length,
+  state_length,
   state_on_ring,
-  state-less,
+  state_less,
   none_under_way,
 }
 use Rattle.slack.proofs.Ending.{stop_first, stop_delivered}
 use Rattle.optimal.specs.Schedule.{busy}
 use Rattle.optimal.proofs.Count.{Decided, tally, count, tally_one, tally_none, count_into, count_front}
 
-pub busy-append : (xs ys : List ℕ) → busy (xs ++ ys) ≡ busy xs + busy ys
+pub busy_append : (xs ys : List ℕ) → busy (xs ++ ys) ≡ busy xs + busy ys
 unfolding busy
-busy-append [] ys = omega arith
-busy-append (x ∷ xs) ys = omega (arith, busy-append xs ys)
+busy_append [] ys = omega arith
+busy_append (x ∷ xs) ys = omega (arith, busy_append xs ys)
 
 -- Entry p of a slot names a row.
 names : (slot : List ℕ) → Decided (λ p. 0 < get_or slot p 0)
 names slot p = dec_lt 0 (get_or slot p 0)
 
-busy-counted : (slot : List ℕ) → busy slot ≡ count (length slot) (names slot)
+busy_counted : (slot : List ℕ) → busy slot ≡ count (length slot) (names slot)
 unfolding busy names count
-busy-counted [] = refl
-busy-counted (x ∷ xs) = omega (arith, count_front (names (x ∷ xs)) (length xs), busy-counted xs, one (dec_lt 0 x))
+busy_counted [] = refl
+busy_counted (x ∷ xs) = omega (arith, count_front (names (x ∷ xs)) (length xs), busy_counted xs, one (dec_lt 0 x))
   where
     one : (d : Dec (0 < x)) → cond (ltb 0 x) 1 0 ≡ tally d
     one (yes d) = rw (lt-ltb 0 x d) (sym (tally_one (yes d) d))
@@ -69,13 +69,13 @@ module _ (T : Traffic) (slot left : List ℕ) where
   unfolding total count
   taken_off zero l = refl
   taken_off (suc m) l =
-      let before = rw add-one at (total-more left m l) in
-      let after = rw add-one at (total-more (moved T slot left) m (omega (arith, moved_length T slot left))) in
+      let before = rw add-one at (total_more left m l) in
+      let after = rw add-one at (total_more (moved T slot left) m (omega (arith, moved_length T slot left))) in
       omega (arith, taken_off m (omega arith), one (sent m))
     where
       one : (d : Dec (Sent m)) → get_or left m 0 ≡ get_or (moved T slot left) m 0 + tally d
       one (yes d) = omega (arith, tally_one (yes d) d, moved_by_one T slot left m l)
-      one (no d) = omega (arith, tally_none (no d) d, moved-less T slot left m l)
+      one (no d) = omega (arith, tally_none (no d) d, moved_less T slot left m l)
 
   all_taken_off : total left ≡ total (moved T slot left) + count (length left) sent
   all_taken_off =
@@ -130,7 +130,7 @@ module _ (T : Traffic) (t : ℕ) (left : List ℕ) (ring : OnRing T left) where
   -- One slot takes off as many links as it has entries that name a row.
   pub slot_sends : total left ≡ total (moved T (slot_of T t left) left) + busy (slot_of T t left)
   slot_sends =
-      let counted = rw (slot_length T t left) at (busy-counted (slot_of T t left)) in
+      let counted = rw (slot_length T t left) at (busy_counted (slot_of T t left)) in
       omega (arith, all_taken_off T (slot_of T t left) left, as_many)
 
 module _ {T : Traffic} {start : List ℕ} (ring : OnRing T start) where
@@ -140,7 +140,7 @@ module _ {T : Traffic} {start : List ℕ} (ring : OnRing T start) where
   sends_so_far zero = omega arith
   sends_so_far (suc t) =
       let left = state_at T start t in
-      let both = busy-append (plan_of T start t) (slot_of T t left) in
+      let both = busy_append (plan_of T start t) (slot_of T t left) in
       omega (arith, sends_so_far t, slot_sends T t left (state_on_ring T start ring t))
 
   -- The plan of a run that ends with no late row names a row once for each link to go at the start.
@@ -153,9 +153,9 @@ module _ {T : Traffic} {start : List ℕ} (ring : OnRing T start) where
 
       delivered : (i : ℕ) → i < length (state_at T start slots) → get_or (state_at T start slots) i 0 ≤ 0
       delivered i l =
-          let known : i < length start = omega (arith, state-length T start slots) in
+          let known : i < length start = omega (arith, state_length T start slots) in
           let at_end = none_under_way (state_at T start end) (stop_delivered T start slots dues on_time) i in
-          omega (arith, state-less T start i known end slots (stop_first T start slots).within)
+          omega (arith, state_less T start i known end slots (stop_first T start slots).within)
 
       nothing_left : total (state_at T start slots) ≤ 0
       nothing_left = omega (arith, total_below 0 (state_at T start slots) delivered)

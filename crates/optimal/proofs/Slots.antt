@@ -11,10 +11,10 @@ use Rattle.slack.proofs.Rule.{
   Stands,
   Picked,
   pick_least,
-  pick-none,
+  pick_none,
   place_inside,
   moved_sent,
-  moved-less,
+  moved_less,
   moved_by_one,
   moved_named,
   slot_entry,
@@ -52,7 +52,7 @@ module _ (T : Traffic) where
   unfolding place
   slot_step slot left =
       record {
-        no_more = moved-less T slot left;
+        no_more = moved_less T slot left;
         one_less = moved_by_one T slot left;
         single = λ i j l m a b same. alone i j l m a b same;
       }
@@ -81,7 +81,7 @@ module _ (T : Traffic) where
       stands = record { under_way_lem = under_way_lem; here = refl }
 
       go : (n : ℕ) → pick T t left p (length left) ≡ n → (y : ℕ) × RingBefore left after x y
-      go zero e = absurd (pick-none T t left p (length left) e x known stands)
+      go zero e = absurd (pick_none T t left p (length left) e x known stands)
       go (suc y) e = (
         y,
         record {

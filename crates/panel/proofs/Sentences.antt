@@ -16,7 +16,7 @@ use Rattle.lists.specs.Lists.{first_place}
 use Rattle.table.specs.declared.Row.{Row}
 use Rattle.table.specs.declared.Verdict.{Verdict}
 use Rattle.table.specs.declared.Verdict.TheVariants.{Good, Refused}
-use Rattle.table.specs.Table.{most-rows, latest_due, most-length, most_cells, row_refusal, judge_rows, cells_in, after_rows}
+use Rattle.table.specs.Table.{most_rows, latest_due, most_length, most_cells, row_refusal, judge_rows, cells_in, after_rows}
 use Rattle.table.specs.Table.{judge_all, judge}
 use Rattle.planner.specs.declared.Answer.{Answer}
 use Rattle.planner.specs.declared.Answer.TheVariants.{Accepted, Refused as Turned}
@@ -28,7 +28,7 @@ use Rattle.text.specs.declared.Writing.TheVariants.{Written, Refused as NotWritt
 use Rattle.text.specs.Text.{nodes_key, rows_key, text_of, line_good, line_rest, wrong_line, rows_keys, nodes_in, rows_in}
 use Rattle.text.specs.Text.{body_of, reading_of_rows, reading_of_body, reading_of, writing_of}
 use Rattle.area.specs.Area as Area
-use Rattle.area.specs.Area.{most-links, count_in}
+use Rattle.area.specs.Area.{most_links, count_in}
 use Rattle.edit.specs.declared.Entry.{Entry}
 use Rattle.edit.specs.Edit.{about_row, edit_refusal, entry_of}
 use Rattle.edit_judge.specs.Judge.{Edit, Add, Change, Remove, first_of, size_refusal, number_refusal, refusal_of, verdict_by}
@@ -64,7 +64,7 @@ unfolding row_refusal is_in first_place
 row_told n r =
     either Told (leb n r.src) refl
     (either Told (leb n r.dst) refl
-    (either Told (eqb r.len 0 || ltb most-length r.len) refl
+    (either Told (eqb r.len 0 || ltb most_length r.len) refl
     (either Told (eqb r.due 0 || ltb latest_due r.due) refl refl)))
 
 rows_told : (n : ℕ) (rows : List Row) (above : ℕ) → ToldVerdict (judge_rows n rows above)
@@ -81,7 +81,7 @@ table_told : (n : ℕ) (rows : List Row) → ToldVerdict (judge n rows)
 unfolding judge judge_all ToldVerdict is_in first_place
 table_told n rows =
     either ToldVerdict (ltb n 2 || ltb 32 n) refl
-    (either ToldVerdict (ltb most-rows (length rows)) refl
+    (either ToldVerdict (ltb most_rows (length rows)) refl
     (cells_told (judge_rows n rows 0) (cells_in rows) (rows_told n rows 0)))
 
 -- Flattened, an answer keeps its number.
@@ -121,7 +121,7 @@ lines_told n k body = either ToldReading (eqb (wrong_line (rows_keys k) body 3) 
 body_told : (n k lent : ℕ) (body : List ℕ) → ToldReading (reading_of_body n k lent body)
 unfolding reading_of_body flat_reading is_in first_place
 body_told n k lent body =
-    either ToldReading (ltb most-rows k) refl (either ToldReading (ltb lent k) refl (lines_told n k body))
+    either ToldReading (ltb most_rows k) refl (either ToldReading (ltb lent k) refl (lines_told n k body))
 
 reading_told : (text : List ℕ) (lent : ℕ) → ToldReading (reading_of text lent)
 unfolding reading_of flat_reading is_in first_place
@@ -138,7 +138,7 @@ reading_has_sentence {text} {rows} d = rw d.answers (reading_told text (length r
 writing_told : (n : ℕ) (rows : List Row) (room : ℕ) → ToldWriting (writing_of n rows room)
 unfolding writing_of ToldWriting is_in first_place
 writing_told n rows room =
-    either ToldWriting (ltb most-rows (length rows)) refl
+    either ToldWriting (ltb most_rows (length rows)) refl
     (either ToldWriting (ltb room (length (text_of n rows))) refl refl)
 
 -- A writing has one as plain numbers too, of a table or of a catalogue.
@@ -171,11 +171,11 @@ first_told a b t u = either Told (eqb a 0) u t
 -- The refusal of the sizes, of a full table, of a row number, and of an edit.
 size_told : (n count : ℕ) → Told (size_refusal n count)
 unfolding size_refusal is_in first_place
-size_told n count = either Told (ltb n 2 || ltb most-links n) refl (either Told (ltb most-rows count) refl refl)
+size_told n count = either Told (ltb n 2 || ltb most_links n) refl (either Told (ltb most_rows count) refl refl)
 
-full_told : (count : ℕ) → Told (cond (eqb count most-rows) 2 0)
+full_told : (count : ℕ) → Told (cond (eqb count most_rows) 2 0)
 unfolding is_in first_place
-full_told count = either Told (eqb count most-rows) refl refl
+full_told count = either Told (eqb count most_rows) refl refl
 
 number_told : (count k : ℕ) → Told (number_refusal count k)
 unfolding number_refusal is_in first_place

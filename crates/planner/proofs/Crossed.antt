@@ -1,5 +1,5 @@
 -- The sends of a table: counted over its rows they are those of its columns, and those of its cells.
---     few-crossed       no more than m times the cells, where no row has more than m links to go
+--     few_crossed       no more than m times the cells, where no row has more than m links to go
 --     cells_cross       each cell of a row crosses the row's links
 --     table_crossed, sends_of_cells      the sends of a table, by its lengths and distances, and by its cells
 -- Assumes nothing.
@@ -10,7 +10,7 @@ use native.Mathlib.Omega.{arith}
 use mathlib.Core.List.{List, [], ◌∷◌}
 use lib.ListN.{length, get_or}
 use Rattle.lists.specs.Lists.{build, total}
-use Rattle.lists.proofs.Sums.{total_joined, total-same}
+use Rattle.lists.proofs.Sums.{total_joined, total_same}
 use Rattle.table.specs.declared.Row.{Row}
 use Rattle.table.specs.Table.{lengths, distances, sends_of}
 use Rattle.cells.specs.Rows.{per_cell, laid_out, cell_links}
@@ -26,21 +26,21 @@ over_cells (l ∷ ls) f =
     omega (
       arith,
       total_joined (build l (λ j. f 0)) (per_cell ls (λ i j. f (suc i))),
-      total-same l (f 0),
+      total_same l (f 0),
       over_cells ls (λ i. f (suc i)),
     )
 
 -- No more than m times the cells, where no row has more than m links to go.
-pub few-crossed : (m : ℕ) (len : List ℕ) (links : ℕ → ℕ) → ((j : ℕ) → links j ≤ m)
+pub few_crossed : (m : ℕ) (len : List ℕ) (links : ℕ → ℕ) → ((j : ℕ) → links j ≤ m)
     → (i : ℕ) → total (build i (λ j. get_or len j 0 * links j)) ≤ m * total len
 unfolding total
-few-crossed m len links near zero = omega arith
-few-crossed m [] links near (suc i) = omega (arith, few-crossed m [] (λ j. links (suc j)) (λ j. near (suc j)) i)
-few-crossed m (l ∷ ls) links near (suc i) =
+few_crossed m len links near zero = omega arith
+few_crossed m [] links near (suc i) = omega (arith, few_crossed m [] (λ j. links (suc j)) (λ j. near (suc j)) i)
+few_crossed m (l ∷ ls) links near (suc i) =
     omega (
       arith,
       mul-le-mul (le_refl l) (near 0),
-      few-crossed m ls (λ j. links (suc j)) (λ j. near (suc j)) i,
+      few_crossed m ls (λ j. links (suc j)) (λ j. near (suc j)) i,
       mul-add m l (total ls),
       mul_comm m l,
     )

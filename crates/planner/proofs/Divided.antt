@@ -25,7 +25,7 @@ use Rattle.table.specs.Table.{WellFormed, lengths, cells_in, sends_of, last_due}
 use Rattle.optimal.proofs.Deliveries.{delivered_first}
 use Rattle.cells.specs.Rows.{Freight, cell_links}
 use Rattle.cells.specs.Cells.{cell_traffic}
-use Rattle.best.proofs.Order.{links-long, laid_on_ring}
+use Rattle.best.proofs.Order.{links_long, laid_on_ring}
 use Rattle.best.proofs.Arriving.{last, arrival_is}
 use Rattle.planner.specs.declared.Summary.{Summary}
 use Rattle.planner.specs.declared.Answer.TheVariants.{Accepted}
@@ -42,7 +42,7 @@ use Rattle.planner.proofs.Promises.{
   table_laden,
   table_cells,
   accepted_with,
-  lengths-long,
+  lengths_long,
   last_above_zero,
 }
 use Rattle.planner.proofs.Seen.{accepted_is_plannable}
@@ -130,18 +130,18 @@ module _ (n : ℕ) (rows : List Row) (well : WellFormed n rows) where
 
   its_rows : length (the_arrivals n rows) ≡ length rows
   unfolding the_arrivals
-  its_rows = arrivals_long F (last_due rows) ∙ lengths-long rows
+  its_rows = arrivals_long F (last_due rows) ∙ lengths_long rows
 
-  few-rows : length rows ≤ 512
-  few-rows = (sound n rows well).few
+  few_rows : length rows ≤ 512
+  few_rows = (sound n rows well).few
 
   small_sum : total (the_arrivals n rows) ≤ 1024 * 512
-  small_sum = omega (arith, total_below 1024 (the_arrivals n rows) arrival_soon, its_rows, few-rows)
+  small_sum = omega (arith, total_below 1024 (the_arrivals n rows) arrival_soon, its_rows, few_rows)
 
   small_sends : sends_of n rows ≤ 32 * 1024
   unfolding cells_in cell_traffic
   small_sends =
-      omega (arith, sends_of_cells n rows, total_below 32 (cell_links F) within_32, links-long F, (sound n rows well).cells)
+      omega (arith, sends_of_cells n rows, total_below 32 (cell_links F) within_32, links_long F, (sound n rows well).cells)
     where
       within_32 : (c : ℕ) → c < length (cell_links F) → get_or (cell_links F) c 0 ≤ 32
       within_32 c l =
@@ -154,7 +154,7 @@ module _ (n : ℕ) (rows : List Row) (well : WellFormed n rows) where
   sum_exact = exact_up_to (total (the_arrivals n rows)) (omega (arith, small_sum))
 
   rows_exact : Exact (length rows)
-  rows_exact = exact_up_to (length rows) (omega (arith, few-rows))
+  rows_exact = exact_up_to (length rows) (omega (arith, few_rows))
 
   sends_exact : Exact (sends_of n rows)
   sends_exact = exact_up_to (sends_of n rows) (omega (arith, small_sends))

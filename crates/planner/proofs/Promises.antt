@@ -20,7 +20,7 @@ use lib.Seq.{take_at}
 use Rattle.lists.specs.Lists.{build, largest}
 use Rattle.lists.proofs.Truth.{differ}
 use Rattle.ring.specs.Ring.{distance}
-use Rattle.lists.proofs.Figures.{at_most-largest}
+use Rattle.lists.proofs.Figures.{at_most_largest}
 use Rattle.table.specs.declared.Row.{Row}
 use Rattle.table.specs.declared.Refusal.{Refusal}
 use Rattle.table.specs.declared.Verdict.TheVariants as verdict
@@ -31,7 +31,7 @@ use Rattle.table.proofs.Judging.{good_rows}
 use Rattle.table.proofs.Whole.{sound}
 use Rattle.slack.specs.declared.Stop.{Stop}
 use Rattle.slack.specs.Slack.{Traffic, state_at, delivered_from, late_row, stop_of}
-use Rattle.slack.proofs.Rule.{late_none, state-length}
+use Rattle.slack.proofs.Rule.{late_none, state_length}
 use Rattle.slack.proofs.Ending.{stop_first}
 use Rattle.optimal.specs.Schedule.{busy}
 use Rattle.optimal.proofs.Deliveries.{First, delivered_first}
@@ -40,8 +40,8 @@ use Rattle.cells.specs.Cells.{cell_traffic, owner_of, row_plan, end_by, row_stop
 use Rattle.cells.specs.Steps.{Laden}
 use Rattle.cells.specs.Steps.{AboveZero}
 use Rattle.best.proofs.Best.{row_plan_long, cell_dues_lem, told_is_schedule, rows_late_iff_none}
-use Rattle.best.proofs.Order.{links-long, links_at}
-use Rattle.best.proofs.Named.{late_names-lowest, row_stop_none}
+use Rattle.best.proofs.Order.{links_long, links_at}
+use Rattle.best.proofs.Named.{late_names_lowest, row_stop_none}
 use Rattle.best.proofs.Planning.{told_sends}
 use Rattle.best.proofs.Arriving.{last, last_is, arrival_is}
 use Rattle.planner.specs.declared.Answer.{Answer}
@@ -87,9 +87,9 @@ one_outcome {n} {rows} {plan} {arrivals} {r₁} {r₂} a b =
       a.fills_arrivals ∙ ap (λ r. area_after r (the_arrivals n rows) arrivals) same ∙ sym b.fills_arrivals,
     )
 
-pub lengths-long : (rows : List Row) → length (lengths rows) ≡ length rows
+pub lengths_long : (rows : List Row) → length (lengths rows) ≡ length rows
 unfolding lengths
-lengths-long rows = length-map rows _
+lengths_long rows = length-map rows _
 
 module _ (n : ℕ) (rows : List Row) (well : WellFormed n rows) where
   pub tabled : Tabled n (sources rows) (destinations rows) (lengths rows) (dues rows)
@@ -110,7 +110,7 @@ module _ (n : ℕ) (rows : List Row) (well : WellFormed n rows) where
 
   pub due_in_time : (i : ℕ) → i < length (lengths rows) → get_or (dues rows) i 0 ≤ last_due rows
   unfolding last_due
-  due_in_time i h = at_most-largest (dues rows) i
+  due_in_time i h = at_most_largest (dues rows) i
 
 module _ {n : ℕ} {rows : List Row} {plan arrivals plan' arrivals' : List ℕ} {r : Reply}
     (k : Plannable n rows plan arrivals) (out : Planned n rows plan arrivals r plan' arrivals') where
@@ -245,17 +245,17 @@ module _ {n : ℕ} {rows : List Row} {plan arrivals plan' arrivals' : List ℕ} 
           × ((j : ℕ) → j < i → RowLate F t (state_at T start t) j → ⊥)
       lowest zero f some o = absurd (some refl)
       lowest (suc c) f some o =
-          let long = state-length T start t ∙ links-long F in
-          let (i, is, known, late, least) = late_names-lowest F t (state_at T start t) long c (sym f) in
-          (i, sym o ∙ is, omega (arith, lengths-long rows), late, least)
+          let long = state_length T start t ∙ links_long F in
+          let (i, is, known, late, least) = late_names_lowest F t (state_at T start t) long c (sym f) in
+          (i, sym o ∙ is, omega (arith, lengths_long rows), late, least)
 
-sources-long : (rows : List Row) → length (sources rows) ≡ length rows
+sources_long : (rows : List Row) → length (sources rows) ≡ length rows
 unfolding sources
-sources-long rows = length-map rows _
+sources_long rows = length-map rows _
 
-first-due : (rows : List Row) → get_or (dues rows) 0 0 ≡ (get_or rows 0 none).due
+first_due : (rows : List Row) → get_or (dues rows) 0 0 ≡ (get_or rows 0 none).due
 unfolding dues
-first-due rows = get_or-map (λ r. r.due) rows 0 none
+first_due rows = get_or-map (λ r. r.due) rows 0 none
 
 -- A row under way at instant 0 is delivered later.
 not_at_once : (T : Traffic) (start : List ℕ) (i slots : ℕ) → 0 < get_or start i 0 → 0 < slots
@@ -272,7 +272,7 @@ pub last_above_zero : (n : ℕ) (rows : List Row) → WellFormed n rows → 0 < 
 unfolding the_arrivals last_due
 last_above_zero n rows well some =
     let later = not_at_once (cell_traffic F) (cell_links F) (last F laden' 0 known cell) (last_due rows) going due_later in
-    omega (arith, at_most-largest (the_arrivals n rows) 0, arrival_is F laden' 0 known cell (last_due rows), later)
+    omega (arith, at_most_largest (the_arrivals n rows) 0, arrival_is F laden' 0 known cell (last_due rows), later)
   where
     F : Freight
     F = freight_of n rows
@@ -281,7 +281,7 @@ last_above_zero n rows well some =
     laden' = table_laden n rows well
 
     known : 0 < length (lengths rows)
-    known = omega (arith, lengths-long rows)
+    known = omega (arith, lengths_long rows)
 
     cell : 0 < get_or (lengths rows) 0 0
     cell = table_cells n rows well 0 known
@@ -289,7 +289,7 @@ last_above_zero n rows well some =
     links : 0 < get_or (distances n rows) 0 0
     links =
         rw (its_links n rows well)
-        (under_way_lem (tabled n rows well) (all_good n rows well) 0 (omega (arith, sources-long rows)))
+        (under_way_lem (tabled n rows well) (all_good n rows well) 0 (omega (arith, sources_long rows)))
 
     going : 0 < get_or (cell_links F) (last F laden' 0 known cell) 0
     going =
@@ -298,4 +298,4 @@ last_above_zero n rows well some =
     due_later : 0 < last_due rows
     due_later =
         let good = good_rows n rows 0 (sound n rows well).each 0 some in
-        omega (arith, good.due_some, first-due rows, at_most-largest (dues rows) 0)
+        omega (arith, good.due_some, first_due rows, at_most_largest (dues rows) 0)

@@ -26,9 +26,9 @@ use Rattle.slack.specs.Slack.{Traffic, pick, state_at, plan_of}
 use Rattle.optimal.proofs.Plan.{entry_inside, plan_entry}
 use Rattle.cells.specs.Rows.{Freight, cell_links, cells_left, Delivered, MeetsRows, owners}
 use Rattle.cells.specs.Cells.{cell_traffic, owner_of, row_plan, row_arrivals}
-use Rattle.best.proofs.Order.{links-long}
+use Rattle.best.proofs.Order.{links_long}
 use Rattle.best.proofs.Best.{told_at}
-use Rattle.best.proofs.Arriving.{row-arrives}
+use Rattle.best.proofs.Arriving.{row_arrives}
 use Rattle.planner.specs.declared.Answer.{Answer}
 use Rattle.planner.specs.declared.Answer.TheVariants.{Accepted, Refused}
 use Rattle.planner.specs.declared.Reply.{Reply}
@@ -53,7 +53,7 @@ use Rattle.planner.proofs.Promises.{
   accepted_with,
   the_plan_is,
   accepted_plan_is_a_schedule,
-  lengths-long,
+  lengths_long,
   table_laden,
   table_cells,
 }
@@ -126,7 +126,7 @@ module _ {n : ℕ} {rows : List Row} {plan arrivals plan' arrivals' : List ℕ} 
       sym (get_or-take (plan_room n rows) plan' (t * n + p) 0 used)
       ∙ ap (λ front. get_or front (t * n + p) 0) (the_plan_is k out accepted)
       ∙ told_at F plan (t * n + p) ∙ ap (owner_of (owners F)) (plan_entry T start (last_due rows) t p early inside)
-      ∙ ap (λ m. owner_of (owners F) (pick T t (state_at T start t) p m)) (links-long F)
+      ∙ ap (λ m. owner_of (owners F) (pick T t (state_at T start t) p m)) (links_long F)
 
   -- Row i's arrival is that of the rule's run.
   its_arrival : (i : ℕ) → i < length rows → get_or arrivals' i 0 ≡ get_or (row_arrivals F (last_due rows)) i 0
@@ -135,7 +135,7 @@ module _ {n : ℕ} {rows : List Row} {plan arrivals plan' arrivals' : List ℕ} 
       let given = the_arrivals n rows in
       let carries = accepted_with k out accepted in
       let filled : arrivals' ≡ given ++ drop (length given) arrivals = out.fills_arrivals ∙ rw carries in
-      let inside : i < length given = omega (arith, arrivals_long F (last_due rows), lengths-long rows) in
+      let inside : i < length given = omega (arith, arrivals_long F (last_due rows), lengths_long rows) in
       ap (λ area. get_or area i 0) filled ∙ get_or-append given (drop (length given) arrivals) 0 i inside
 
   -- Each arrival is the instant from which on the plan that is seen has delivered all cells of its row.
@@ -143,16 +143,16 @@ module _ {n : ℕ} {rows : List Row} {plan arrivals plan' arrivals' : List ℕ} 
       → (get_or arrivals' i 0 ≤ t) ↔ Delivered F (cells_left F (take (plan_room n rows) plan') t) i
   arrivals_are_deliveries i t known early =
       let well = k.well_formed in
-      let inside : i < length (lengths rows) = omega (arith, lengths-long rows) in
+      let inside : i < length (lengths rows) = omega (arith, lengths_long rows) in
       rw (the_plan_is k out accepted, its_arrival i known)
-      (row-arrives F (table_laden n rows well) i inside (table_cells n rows well i inside) (last_due rows)
+      (row_arrives F (table_laden n rows well) i inside (table_cells n rows well i inside) (last_due rows)
       (due_in_time n rows well) (accepted_then k out accepted) t early)
 
   -- No arrival lies after its row's due slot.
   pub arrives_in_time : (i : ℕ) → i < length rows → get_or arrivals' i 0 ≤ get_or (dues rows) i 0
   unfolding MeetsRows
   arrives_in_time i known =
-      let inside : i < length (lengths rows) = omega (arith, lengths-long rows) in
+      let inside : i < length (lengths rows) = omega (arith, lengths_long rows) in
       let (t, in_time, whole) = (accepted_plan_is_a_schedule k out accepted).meets i inside in
       let early : t ≤ last_due rows = omega (arith, in_time, due_in_time n rows k.well_formed i inside) in
       omega (arith, in_time, (arrivals_are_deliveries i t known early).1 whole)

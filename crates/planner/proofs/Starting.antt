@@ -20,7 +20,7 @@ use Rattle.cells.proofs.Seats.{Seat, seat}
 use Rattle.best.proofs.Order.{seat_owner, seat_dst, seat_links}
 use Rattle.planner.specs.Planner.{freight_of}
 use Rattle.table.proofs.Whole.{sound}
-use Rattle.planner.proofs.Promises.{lengths-long}
+use Rattle.planner.proofs.Promises.{lengths_long}
 
 -- An entry of a column is the row's own.
 pub its_entry : (f : Row → ℕ) (rows : List Row) (i : ℕ) → i < length rows → get_or (map f rows) i 0 ≡ f (get_or rows i none)
@@ -36,7 +36,7 @@ unfolding place road cell_traffic destinations distances
 starts_at_source n rows well i c inside of_row =
     let s : Seat (lengths rows) c = seat (lengths rows) c inside in
     let same : s.row ≡ i = omega (arith, seat_owner F s) in
-    let known : s.row < length rows = omega (arith, s.known, lengths-long rows) in
+    let known : s.row < length rows = omega (arith, s.known, lengths_long rows) in
     let r = get_or rows s.row none in
     let good = good_rows n rows 0 (sound n rows well).each s.row known in
     ap (λ q. standing n q (get_or (cell_links F) c 0)) (seat_dst F s ∙ its_entry (λ x. x.dst) rows s.row known)

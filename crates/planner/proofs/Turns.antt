@@ -17,9 +17,9 @@ use Rattle.slack.proofs.Rule.{moved_length, moved_by_one}
 use Rattle.optimal.specs.Schedule.{named_in}
 use Rattle.cells.specs.Rows.{Freight, cell_links, road, carried, cells_left, Delivered}
 use Rattle.cells.proofs.Seats.{first_cell, cell_known}
-use Rattle.best.proofs.Order.{owner_at, links_at, links-long}
+use Rattle.best.proofs.Order.{owner_at, links_at, links_long}
 use Rattle.planner.specs.Planner.{freight_of}
-use Rattle.planner.proofs.Promises.{lengths-long, table_cells}
+use Rattle.planner.proofs.Promises.{lengths_long, table_cells}
 use Rattle.planner.proofs.Starting.{its_entry}
 
 module _ (F : Freight) (schedule : List ℕ) where
@@ -48,7 +48,7 @@ module _ (n : ℕ) (rows : List Row) (well : WellFormed n rows) (i : ℕ) (known
   F = freight_of n rows
 
   inside : i < length (lengths rows)
-  inside = omega (arith, lengths-long rows)
+  inside = omega (arith, lengths_long rows)
 
   -- Each cell of such a row has N links to go at the start.
   pub starts_full : (j : ℕ) → j < get_or (lengths rows) i 0 → get_or (cell_links F) (first_cell (lengths rows) i + j) 0 ≡ n
@@ -63,6 +63,6 @@ module _ (n : ℕ) (rows : List Row) (well : WellFormed n rows) (i : ℕ) (known
   turn_takes_n schedule t whole =
       let some = table_cells n rows well i inside in
       let c : ℕ = first_cell (lengths rows) i + 0 in
-      let there : c < length (cell_links F) = omega (arith, cell_known (lengths rows) i 0 inside some, links-long F) in
+      let there : c < length (cell_links F) = omega (arith, cell_known (lengths rows) i 0 inside some, links_long F) in
       let gone = whole c (omega (arith, as_many F schedule t)) (owner_at F i 0 inside some) in
       omega (arith, not_sooner F schedule t c there, starts_full 0 some, gone)

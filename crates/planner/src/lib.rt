@@ -171,6 +171,7 @@ fn plan_good(
 }
 
 // Plans the first `rows` rows of the columns: the whole planner, on plain numbers.
+#[tactic(auto, using(table::proofs::Whole::rows_few, table::proofs::Whole::rows_front))]
 pub fn plan_columns(
     nodes: u16,
     rows: usize,

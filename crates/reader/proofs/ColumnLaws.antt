@@ -1,5 +1,5 @@
 -- Columns of 512 places, as `table` has them.
---     column-none, column-more     a column of no entries is zeros, and one entry more is one place set
+--     column_none, column_more     a column of no entries is zeros, and one entry more is one place set
 --     map_last                     one entry more, mapped
 -- Assumes nothing.
 use mathlib.Core.Path.{◌≡◌, refl, ◌∙◌, ap, sym}
@@ -34,16 +34,16 @@ one_more most xs v h =
     let after : most - length (xs ++ (v ∷ [])) ≡ k = omega (arith, length-append xs (v ∷ [])) in
     rw (left, after) (set-append_seam xs 0 (replicate {A = ℕ} k 0) v ∙ sym (append_snoc xs v (replicate {A = ℕ} k 0)))
 
-pub column-none : replicate {A = ℕ} 512 0 ≡ column []
+pub column_none : replicate {A = ℕ} 512 0 ≡ column []
 unfolding column
-column-none = sym (take_all 512 (replicate {A = ℕ} 512 0) (omega (arith, length-replicate {A = ℕ} 512 0)))
+column_none = sym (take_all 512 (replicate {A = ℕ} 512 0) (omega (arith, length-replicate {A = ℕ} 512 0)))
 
 column_is : (xs : List ℕ) → length xs ≤ 512 → column xs ≡ xs ++ replicate {A = ℕ} (512 - length xs) 0
 unfolding column
 column_is xs h = padded 512 xs h
 
-pub column-more : (xs : List ℕ) (i v : ℕ) → length xs ≡ i → i < 512 → set (column xs) i v ≡ column (xs ++ (v ∷ []))
-column-more xs i v e h =
+pub column_more : (xs : List ℕ) (i v : ℕ) → length xs ≡ i → i < 512 → set (column xs) i v ≡ column (xs ++ (v ∷ []))
+column_more xs i v e h =
     ap (λ (l : List ℕ). set l i v) (column_is xs (omega arith))
     ∙ ap (λ (k : ℕ). set (xs ++ replicate {A = ℕ} (512 - length xs) 0) k v) (sym e)
     ∙ one_more 512 xs v (omega arith) ∙ sym (column_is (xs ++ (v ∷ [])) (omega (arith, length-append xs (v ∷ []))))

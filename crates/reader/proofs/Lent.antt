@@ -1,5 +1,5 @@
 -- From plain numbers to lent rows: what `parse` says of columns is what `read` says of the rows.
---     filled-fits      a reading fills at most as many rows as are lent, and at most 512
+--     filled_fits      a reading fills at most as many rows as are lent, and at most 512
 --     rows_fit         so a count that is the number of rows read can be stored
 --     rows_stored      the rows that were read, stored at the front of the lent ones, are what a reading promises of
 --     them
@@ -16,18 +16,18 @@ use Rattle.text.specs.declared.Parsed.{Parsed}
 use Rattle.text.specs.declared.Reading.{Reading}
 use Rattle.text.specs.declared.Reading.TheVariants.{Read, Refused}
 use Rattle.text.specs.Text.{reading_of, filled, rows_read, TextParsed, TextTaken}
-use Rattle.text.proofs.RoundTrip.{read_fits, rows-counted}
-use Rattle.reader.proofs.Parsing.{filled-rows}
+use Rattle.text.proofs.RoundTrip.{read_fits, rows_counted}
+use Rattle.reader.proofs.Parsing.{filled_rows}
 
 -- A reading fills at most as many rows as are lent, and at most 512.
-pub filled-fits : (text : List ℕ) (lent : ℕ) → (filled (reading_of text lent) ≤ lent) ×
+pub filled_fits : (text : List ℕ) (lent : ℕ) → (filled (reading_of text lent) ≤ lent) ×
     (filled (reading_of text lent) ≤ 512)
-filled-fits text lent = go (reading_of text lent) refl
+filled_fits text lent = go (reading_of text lent) refl
   where
     go : (r : Reading) → reading_of text lent ≡ r → (filled r ≤ lent) × (filled r ≤ 512)
     go (Read h) e =
         let f = read_fits text lent h e in
-        let n = rows-counted text lent h e in
+        let n = rows_counted text lent h e in
         (omega (arith, f.room, n), omega (arith, f.few, n))
     go (Refused r) e = (omega arith, omega arith)
 
@@ -35,7 +35,7 @@ filled-fits text lent = go (reading_of text lent) refl
 pub rows_fit : (text : List ℕ) (lent : ℕ) {count : ℕ} → count ≡ length (rows_read text lent)
     → (count ≤ lent) × (count ≤ 512)
 rows_fit text lent e =
-    subst (λ (k : ℕ). (k ≤ lent) × (k ≤ 512)) (sym (e ∙ filled-rows text lent)) (filled-fits text lent)
+    subst (λ (k : ℕ). (k ≤ lent) × (k ≤ 512)) (sym (e ∙ filled_rows text lent)) (filled_fits text lent)
 
 -- The rows that were read, stored at the front of the lent ones, are what a reading promises of them.
 pub rows_stored : (text : List ℕ) (rows : List Row) {count : ℕ} {read : List Row}

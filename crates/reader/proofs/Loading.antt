@@ -12,33 +12,33 @@ use lib.ListN.{length, set, drop, length-drop, length-map, replicate, drop_of_le
 use Rattle.table.specs.Table.{destinations, lengths, dues}
 use Rattle.table.specs.Steps.{column, columns, sources}
 use Rattle.table.specs.declared.Row.{Row}
-use Rattle.text.specs.Text.{row-keys, behind_lines, wrong_line, rows_keys, row_at, rows_at}
+use Rattle.text.specs.Text.{row_keys, behind_lines, wrong_line, rows_keys, row_at, rows_at}
 use Rattle.reader.specs.Steps.{RowsTaken}
-use Rattle.reader.proofs.ColumnLaws.{column-none, column-more, map_last}
+use Rattle.reader.proofs.ColumnLaws.{column_none, column_more, map_last}
 use Rattle.text.proofs.RowLaws.{right_on}
 use Rattle.lines.specs.Items.{right_lines}
-use Rattle.lines.proofs.Rows.{row-lines, broken_on}
+use Rattle.lines.proofs.Rows.{row_lines, broken_on}
 use Rattle.lines.proofs.Passed.{Passed}
 
 -- the text behind i rows
 pub past_rows : ℕ → List ℕ → List ℕ
 past_rows zero text = text
-past_rows (suc i) text = past_rows i (behind_lines row-keys text)
+past_rows (suc i) text = past_rows i (behind_lines row_keys text)
 
-past_rows_more : (i : ℕ) (text : List ℕ) → past_rows (suc i) text ≡ behind_lines row-keys (past_rows i text)
+past_rows_more : (i : ℕ) (text : List ℕ) → past_rows (suc i) text ≡ behind_lines row_keys (past_rows i text)
 unfolding past_rows
 past_rows_more zero text = refl
-past_rows_more (suc i) text = past_rows_more i (behind_lines row-keys text)
+past_rows_more (suc i) text = past_rows_more i (behind_lines row_keys text)
 
 pub rows_at_length : (n : ℕ) (text : List ℕ) → length (rows_at n text) ≡ n
 unfolding rows_at
 rows_at_length zero text = refl
-rows_at_length (suc n) text = ap suc (rows_at_length n (behind_lines row-keys text))
+rows_at_length (suc n) text = ap suc (rows_at_length n (behind_lines row_keys text))
 
 rows_at_suc : (n : ℕ) (text : List ℕ) → rows_at (suc n) text ≡ rows_at n text ++ (row_at (past_rows n text) ∷ [])
 unfolding rows_at past_rows
 rows_at_suc zero text = refl
-rows_at_suc (suc n) text = ap {B = List Row} (λ l. row_at text ∷ l) (rows_at_suc n (behind_lines row-keys text))
+rows_at_suc (suc n) text = ap {B = List Row} (λ l. row_at text ∷ l) (rows_at_suc n (behind_lines row_keys text))
 
 -- one more entry of a column
 stored : (f : Row → ℕ) (col : List ℕ) (i : ℕ) (text : List ℕ) (v : ℕ) → i < 512 → v ≡ f (row_at (past_rows i text))
@@ -49,7 +49,7 @@ stored f col i text v h e so =
     ap (λ (x : ℕ). map f (rows_at i text) ++ (x ∷ [])) e
     ∙ sym (ap (map f) one ∙ map_last f (rows_at i text) (row_at (past_rows i text))) in
     ap (λ (l : List ℕ). set l i v) so
-    ∙ column-more (map f (rows_at i text)) i v (length-map (rows_at i text) f ∙ rows_at_length i text) h
+    ∙ column_more (map f (rows_at i text)) i v (length-map (rows_at i text) f ∙ rows_at_length i text) h
     ∙ ap column all
 
 pub record Loaded (text : List ℕ) (from rows : ℕ) (src dst len due : List ℕ) (at line i : ℕ) : Type 0 where
@@ -77,10 +77,10 @@ none_loaded text from rows src dst len due h a b l d =
       counted = omega arith;
       rest = refl;
       judged = rw all;
-      srcs = a ∙ column-none;
-      dsts = b ∙ column-none;
-      lens = l ∙ column-none;
-      due_slots = d ∙ column-none;
+      srcs = a ∙ column_none;
+      dsts = b ∙ column_none;
+      lens = l ∙ column_none;
+      due_slots = d ∙ column_none;
     }
 
 module _ {text : List ℕ} {from rows : ℕ} {src dst len due : List ℕ} {at line i : ℕ}
@@ -89,13 +89,13 @@ module _ {text : List ℕ} {from rows : ℕ} {src dst len due : List ℕ} {at li
     abbrev keys_behind : List (List ℕ)
     keys_behind = rows_keys (rows - (i + 1))
 
-    keys-left : rows_keys (rows - i) ≡ row-keys ++ keys_behind
+    keys_left : rows_keys (rows - i) ≡ row_keys ++ keys_behind
     unfolding rows_keys
-    keys-left = let left : rows - i ≡ suc (rows - (i + 1)) = omega arith in rw left
+    keys_left = let left : rows - i ≡ suc (rows - (i + 1)) = omega arith in rw left
 
     pub more_loaded : (r : Row) (n : ℕ) → rows ≤ 512 → Passed text at r n
         → Loaded text from rows (set src i r.src) (set dst i r.dst) (set len i r.len) (set due i r.due) n
-        (line + length row-keys) (i + 1)
+        (line + length row_keys) (i + 1)
     unfolding sources destinations lengths dues
     more_loaded r n few p =
         let here : r ≡ row_at (past_rows i (drop from text)) = p.row ∙ ap row_at k.rest in
@@ -103,11 +103,11 @@ module _ {text : List ℕ} {from rows : ℕ} {src dst len due : List ℕ} {at li
           inside = p.inside;
           few = omega arith;
           some = omega (arith, k.some);
-          counted = omega (arith, k.counted, row-lines.1);
+          counted = omega (arith, k.counted, row_lines.1);
           rest =
-              p.rest ∙ ap (behind_lines row-keys) k.rest ∙ sym (past_rows_more i (drop from text)) ∙ rw (← add-one i);
+              p.rest ∙ ap (behind_lines row_keys) k.rest ∙ sym (past_rows_more i (drop from text)) ∙ rw (← add-one i);
           judged =
-              k.judged ∙ rw keys-left (right_on row-keys keys_behind (drop at text) line p.right ∙ rw p.rest);
+              k.judged ∙ rw keys_left (right_on row_keys keys_behind (drop at text) line p.right ∙ rw p.rest);
           srcs =
               stored (λ q. q.src) src i (drop from text) r.src (omega arith) (ap (λ (q : Row). q.src) here)
               k.srcs;
@@ -122,12 +122,12 @@ module _ {text : List ℕ} {from rows : ℕ} {src dst len due : List ℕ} {at li
               k.due_slots;
         }
 
-    pub stopped_at : (p : ℕ) → (p < length row-keys) × (right_lines row-keys (drop at text) ≡ p)
+    pub stopped_at : (p : ℕ) → (p < length row_keys) × (right_lines row_keys (drop at text) ≡ p)
         → RowsTaken rows (drop from text) (line + p) src dst len due
     stopped_at p b =
-        let stop = broken_on row-keys keys_behind (drop at text) line (omega (arith, b.0, b.1))
+        let stop = broken_on row_keys keys_behind (drop at text) line (omega (arith, b.0, b.1))
         ∙ ap (λ (n : ℕ). line + n) b.1 in
-        record { judged = sym (k.judged ∙ rw keys-left stop); rows = λ e. absurd (omega (arith, k.some)) }
+        record { judged = sym (k.judged ∙ rw keys_left stop); rows = λ e. absurd (omega (arith, k.some)) }
 
   module _ (done : rows ≤ i) where
     none_left : rows - i ≡ 0

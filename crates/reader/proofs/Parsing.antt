@@ -13,23 +13,23 @@ use Rattle.text.specs.declared.Reading.TheVariants.{Read, Refused}
 use Rattle.text.specs.Text.{body_of, reading_of, rows_read, filled, TextParsed}
 use Rattle.text.specs.Steps.{held}
 use Rattle.reader.specs.Steps.{TextRead}
-use Rattle.table.proofs.Rows.{listed-columns}
+use Rattle.table.proofs.Rows.{listed_columns}
 use Rattle.reader.proofs.Loading.{rows_at_length}
 use Rattle.text.proofs.RoundTrip.{read_fits}
 
 -- as many rows as are filled, and at most 512
-pub filled-rows : (text : List ℕ) (lent : ℕ) → length (rows_read text lent) ≡ filled (reading_of text lent)
+pub filled_rows : (text : List ℕ) (lent : ℕ) → length (rows_read text lent) ≡ filled (reading_of text lent)
 unfolding rows_read
-filled-rows text lent = rows_at_length (filled (reading_of text lent)) (body_of text)
+filled_rows text lent = rows_at_length (filled (reading_of text lent)) (body_of text)
 
-few-rows : (text : List ℕ) (lent : ℕ) → length (rows_read text lent) ≤ 512
-few-rows text lent = go (reading_of text lent) refl
+few_rows : (text : List ℕ) (lent : ℕ) → length (rows_read text lent) ≤ 512
+few_rows text lent = go (reading_of text lent) refl
   where
     go : (a : Reading) → reading_of text lent ≡ a → length (rows_read text lent) ≤ 512
     go (Read h) e = (read_fits text lent h e).few
     go (Refused r) e =
         let none : filled (reading_of text lent) ≡ 0 = ap filled e in
-        omega (arith, filled-rows text lent)
+        omega (arith, filled_rows text lent)
 
 no_rows : (rows : List Row) → length rows ≡ 0 → [] ≡ rows
 no_rows [] e = refl
@@ -38,7 +38,7 @@ no_rows (r ∷ rs) e = absurd (omega arith)
 module _ {text : List ℕ} {lent : ℕ} {answer : Reading} {src dst len due : List ℕ}
     (t : TextRead text lent answer src dst len due) (n : ℕ) (count : n ≡ filled answer) where
   counted_is : n ≡ length (rows_read text lent)
-  counted_is = count ∙ ap filled t.judged ∙ sym (filled-rows text lent)
+  counted_is = count ∙ ap filled t.judged ∙ sym (filled_rows text lent)
 
   parsed : (cols : Columns) → cols ≡ columns (rows_read text lent)
       → TextParsed text lent (record { reading = answer; rows = n; columns = cols })
@@ -48,7 +48,7 @@ module _ {text : List ℕ} {lent : ℕ} {answer : Reading} {src dst len due : Li
         counted = counted_is;
         held = e;
         rows =
-            rw (e, counted_is) (listed-columns (rows_read text lent) (few-rows text lent));
+            rw (e, counted_is) (listed_columns (rows_read text lent) (few_rows text lent));
       }
 
   pub none_parsed : (cols : Columns) → n ≡ 0 → cols ≡ columns []

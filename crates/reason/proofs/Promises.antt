@@ -30,11 +30,11 @@ use Rattle.best.proofs.Order.{laid_on_ring}
 use Rattle.best.proofs.Best.{cell_dues_lem}
 use Rattle.planner.specs.declared.Reply.{Reply}
 use Rattle.planner.specs.Planner.{freight_of, number_of, Planned, ScheduleOf, Plannable}
-use Rattle.planner.proofs.Promises.{table_laden, due_in_time, lengths-long, late_iff_no_schedule}
+use Rattle.planner.proofs.Promises.{table_laden, due_in_time, lengths_long, late_iff_no_schedule}
 use Rattle.jam.specs.declared.Jam.{Jam}
 use Rattle.jam.specs.Jam.{crossing, overfull}
 use Rattle.jam.specs.Members.{row_jam, of_row, members_of}
-use Rattle.jam.proofs.Search.{Found, jam-found}
+use Rattle.jam.proofs.Search.{Found, jam_found}
 use Rattle.jam.proofs.Links.{fewest}
 use Rattle.jam.proofs.Rows.{late_iff_jam, members_sum}
 use Rattle.jam.proofs.Alone.{Among, members_late}
@@ -60,7 +60,7 @@ module _ (n : ℕ) (rows : List Row) (well : WellFormed n rows) where
 
   its_jam : 0 < (jam_of n rows).cells → Found (cell_traffic F) (cell_links F) (last_due rows) (jam_of n rows)
   unfolding jam_of row_jam
-  its_jam some = jam-found (cell_traffic F) (cell_links F) (last_due rows) some
+  its_jam some = jam_found (cell_traffic F) (cell_links F) (last_due rows) some
 
   -- No overfull link of a well-formed table, before any slot, has fewer cells than its jam.
   pub none_has_fewer : (p b : ℕ) → p < n → overfull (cell_traffic F) (cell_links F) p b ≡ true
@@ -113,7 +113,7 @@ module _ {n : ℕ} {rows : List Row} {members members' : List ℕ} {r : Reason} 
       let F = freight_of n rows in
       let marks = members_of F jam.link.0 jam.before.0 in
       let long : length marks ≡ length rows = length-build (length F.len) (of_row F jam.link.0 jam.before.0)
-      ∙ lengths-long rows in
+      ∙ lengths_long rows in
       let filled : members' ≡ marks ++ drop (length rows) members = out.fills ∙ rw is in
       let front : take (length rows) members' ≡ marks
       = ap (take (length rows)) filled ∙ take_at marks (drop (length rows) members) (length rows) long in

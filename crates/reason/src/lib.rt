@@ -187,6 +187,7 @@ fn good_reason(
 }
 
 // Says why the table of the first `rows` rows of the columns is late.
+#[tactic(auto, using(table::proofs::Whole::rows_few, table::proofs::Whole::rows_front))]
 pub fn why_late_columns(nodes: u16, rows: usize, columns: Columns, members: &mut [u16]) -> Reason
     ensures { Reasoned nodes (listed rows columns) members.old result members.new }
 {

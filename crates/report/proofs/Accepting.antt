@@ -28,7 +28,7 @@ use Rattle.planner.proofs.Answering.{arrivals_long}
 use Rattle.planner.proofs.Good.{soon}
 use Rattle.table.proofs.Rows.{listed_fronts, fronts_same}
 use Rattle.table.proofs.Whole.{Sound, sound}
-use Rattle.planner.proofs.Promises.{tabled, all_good, lengths-long, table_laden}
+use Rattle.planner.proofs.Promises.{tabled, all_good, lengths_long, table_laden}
 use Rattle.report.specs.Report.{verdict_lines, accepted_text, answer_text, table_text}
 use Rattle.text.specs.Steps.{Room}
 use Rattle.report.specs.Steps.{Slotted}
@@ -48,9 +48,9 @@ module _ (n : ℕ) (rows : List Row) (s : Summary) (is : the_answer n rows 32768
   pub its_size : Sound n rows
   its_size = sound n rows well
 
-  pub due-soon : last_due rows ≤ 1024
+  pub due_soon : last_due rows ≤ 1024
   unfolding last_due
-  due-soon = soon (tabled n rows well) (all_good n rows well)
+  due_soon = soon (tabled n rows well) (all_good n rows well)
 
   pub plan_long : length (the_plan n rows) ≡ n * last_due rows
   unfolding the_plan
@@ -58,7 +58,7 @@ module _ (n : ℕ) (rows : List Row) (s : Summary) (is : the_answer n rows 32768
 
   pub arrivals_each : length (the_arrivals n rows) ≡ length rows
   unfolding the_arrivals
-  arrivals_each = arrivals_long (freight_of n rows) (last_due rows) ∙ lengths-long rows
+  arrivals_each = arrivals_long (freight_of n rows) (last_due rows) ∙ lengths_long rows
 
 -- No output for a table is longer than the area that is lent for it.
 pub table_most : (n : ℕ) (rows : List Row) → length (table_text n rows) ≤ 212992
@@ -70,7 +70,7 @@ table_most n rows = go (the_answer n rows 32768 512) refl
     go (Accepted s) e =
         let k = its_size n rows s e in
         accepted_most s.last.0 (the_arrivals n rows) n (last_due rows) (the_plan n rows)
-        (omega (arith, arrivals_each n rows s e, k.few)) k.most (due-soon n rows s e)
+        (omega (arith, arrivals_each n rows s e, k.few)) k.most (due_soon n rows s e)
     go (Refused r) e = omega (arith, verdict_most r)
 
 -- As `respond_table` finds it: the rows by columns, the areas that it lends, and what they hold after planning.
@@ -101,8 +101,8 @@ module _ {n count : ℕ} {c : Columns} {r : Reply} {plan' arrivals' : List ℕ}
     size : Sound n table
     size = its_size n table s is
 
-    pub few-rows : count ≤ 512
-    few-rows = omega (arith, size.few, length-listed count c)
+    pub few_rows : count ≤ 512
+    few_rows = omega (arith, size.few, length-listed count c)
 
     plan_there : plan' ≡ the_plan n table ++ drop (length (the_plan n table)) k.plan
     unfolding area_after
@@ -127,15 +127,15 @@ module _ {n count : ℕ} {c : Columns} {r : Reply} {plan' arrivals' : List ℕ}
 
     its_due : dues table ≡ take count c.due
     its_due =
-        let same = fronts_same count c few-rows k.columned in
-        ap dues (listed_fronts count c (omega (arith, few-rows, k.columned.src_all)))
+        let same = fronts_same count c few_rows k.columned in
+        ap dues (listed_fronts count c (omega (arith, few_rows, k.columned.src_all)))
         ∙ its_dues (take count c.src) (take count c.dst) (take count c.len) (take count c.due) same
 
-    pub due-fits : count ≤ length c.due
-    due-fits = omega (arith, few-rows, k.columned.due_all)
+    pub due_fits : count ≤ length c.due
+    due_fits = omega (arith, few_rows, k.columned.due_all)
 
     pub due_front : count ≡ length (take count c.due)
-    due_front = sym (length-take-le count c.due due-fits)
+    due_front = sym (length-take-le count c.due due_fits)
 
     -- the largest due slot of the rows, as it was computed
     module _ {slots : ℕ} (found : slots ≡ largest (take count c.due)) where
@@ -143,8 +143,8 @@ module _ {n count : ℕ} {c : Columns} {r : Reply} {plan' arrivals' : List ℕ}
       unfolding last_due
       last_is = found ∙ ap largest (sym its_due)
 
-      pub entries-small : n * slots ≤ 32768
-      entries-small = rw last_is (mul-le-mul size.most (due-soon n table s is))
+      pub entries_small : n * slots ≤ 32768
+      entries_small = rw last_is (mul-le-mul size.most (due_soon n table s is))
 
       pub plan_fits : n * slots ≤ length plan'
       plan_fits =
@@ -164,7 +164,7 @@ module _ {n count : ℕ} {c : Columns} {r : Reply} {plan' arrivals' : List ℕ}
         some = omega (arith, size.least);
         most = size.most;
         soon =
-            rw last_is (due-soon n table s is);
+            rw last_is (due_soon n table s is);
         room = sym plan_front;
       }
 

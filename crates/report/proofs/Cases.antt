@@ -17,7 +17,7 @@ use Rattle.cells.specs.Cells.{dues_of, cell_dues, cell_traffic, owner_of, told_b
 use Rattle.cells.specs.Cells.{of_last_cells, row_arrivals}
 use Rattle.planner.specs.Planner.{ending, the_plan, the_arrivals, quotient, summary_of, the_summary, answer_to_rows}
 use Rattle.planner.specs.Planner.{after_verdict, the_answer}
-use Rattle.text.specs.Text.{width, last_digits, numeral, line, row-keys, starts, digits_at, extended, item_value, item_good}
+use Rattle.text.specs.Text.{width, last_digits, numeral, line, row_keys, starts, digits_at, extended, item_value, item_good}
 use Rattle.text.specs.Text.{item_rest, values_at, behind_lines, wrong_line, rows_keys, row_at, rows_at, nodes_in, rows_in}
 use Rattle.text.specs.Text.{body_of, reading_of_rows, reading_of_body, reading_of, rows_read}
 use Rattle.text.proofs.Cases.{case_b_text}
@@ -113,7 +113,7 @@ unfolding total largest distance standing
     arrivals_of any_under_way stop_from stop_of per_cell owners_of owners laid_out cell_links dues_of cell_dues cell_traffic owner_of
     told_by row_plan end_by row_stop of_last_cells row_arrivals
     ending the_plan the_arrivals sends_of quotient summary_of the_summary answer_to_rows after_verdict the_answer div of_int
-    width last_digits numeral line starts digits_at extended item_value item_good item_rest row-keys values_at behind_lines
+    width last_digits numeral line starts digits_at extended item_value item_good item_rest row_keys values_at behind_lines
     wrong_line rows_keys row_at rows_at nodes_in rows_in body_of reading_of_rows reading_of_body reading_of rows_read
     verdict_lines arrive_lines mark_before parted send_line send_lines accepted_text answer_text table_text reading_text output_of
 printed = refl

@@ -28,8 +28,8 @@ module _ (area : List ℕ) (from : ℕ) (xs : List ℕ) (some : 1 ≤ length xs)
     one : Putting area from (send_line xs) area₁ at₁ (parted (drop 1 xs))
     one = put_on start first (parted (drop 1 xs)) (first_entry xs (length xs) refl mark m some) (one_put p)
 
-    pub first-long : length area₁ ≡ length area
-    first-long = as_long one
+    pub first_long : length area₁ ≡ length area
+    first_long = as_long one
 
     pub others_begun : Putting area₁ at₁ (parted (drop 1 xs)) area₁ at₁ (parted (drop 1 xs))
     others_begun = begun area₁ at₁ (parted (drop 1 xs)) (parted (drop 1 xs)) (rest_room one) refl

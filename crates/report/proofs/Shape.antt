@@ -81,15 +81,15 @@ arrive_lines_lem (x ∷ xs) = omega (
   arrive_lines_lem xs,
 )
 
-parted-lines : (v : ℕ) (vs : List ℕ) → feeds (parted (v ∷ vs)) ≡ 1
+parted_lines : (v : ℕ) (vs : List ℕ) → feeds (parted (v ∷ vs)) ≡ 1
 unfolding parted mark_before feeds
-parted-lines v [] = omega (arith, join (item [] v line_feed) [], item_feeds [] v line_feed)
-parted-lines v (w ∷ ws) = omega (arith, join (item [] v 44) (parted (w ∷ ws)), item_feeds [] v 44, parted-lines w ws)
+parted_lines v [] = omega (arith, join (item [] v line_feed) [], item_feeds [] v line_feed)
+parted_lines v (w ∷ ws) = omega (arith, join (item [] v 44) (parted (w ∷ ws)), item_feeds [] v 44, parted_lines w ws)
 
 send_lines_lem : (xs : List ℕ) → 1 ≤ length xs → feeds (send_line xs) ≡ 1
 unfolding send_line feeds
 send_lines_lem [] h = absurd (omega arith)
-send_lines_lem (x ∷ xs) h = omega (arith, join send_key (parted (x ∷ xs)), parted-lines x xs)
+send_lines_lem (x ∷ xs) h = omega (arith, join send_key (parted (x ∷ xs)), parted_lines x xs)
 
 sends_lines : (n slots : ℕ) (plan : List ℕ) → 1 ≤ n → length plan ≡ n * slots → feeds (send_lines n slots plan) ≡ slots
 unfolding send_lines feeds

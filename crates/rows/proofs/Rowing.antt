@@ -18,9 +18,9 @@ use Rattle.cells.specs.Cells.{cell_traffic, row_plan, row_stop, of_last_cells, r
 use Rattle.cells.specs.Looks.{row_looks}
 use Rattle.cells.specs.Steps.{Laid}
 use Rattle.cells.proofs.Laid.{traffic_is, owner_is, left_is}
-use Rattle.best.proofs.Order.{owners-long, links-long, laid_on_ring}
+use Rattle.best.proofs.Order.{owners_long, links_long, laid_on_ring}
 use Rattle.best.proofs.Named.{owner_named}
-use Rattle.best.proofs.Planning.{same-largest}
+use Rattle.best.proofs.Planning.{same_largest}
 use Rattle.run.specs.Steps.{Ready, Ran}
 use Rattle.run.specs.declared.Ending.{Ending}
 use Rattle.rows.specs.Steps.{Loaded, RanRows}
@@ -40,18 +40,18 @@ none_gathered len n =
 
 module _ {F : Freight} {plan arrivals : List ℕ} (loaded : Loaded F plan arrivals) where
   last_is : largest (cell_traffic F).due ≡ largest F.due
-  last_is = same-largest F loaded.due_each loaded.some
+  last_is = same_largest F loaded.due_each loaded.some
 
   ready : (stamps : List ℕ) → length stamps ≡ total F.len
       → Ready (cell_traffic F) (owners F) (cell_links F) plan stamps
   ready stamps each =
       record {
         ring = laid_on_ring F loaded.laden;
-        few = omega (arith, links-long F, loaded.few);
+        few = omega (arith, links_long F, loaded.few);
         soon = rw last_is loaded.soon;
         room = rw last_is (unfold cell_traffic in loaded.room);
-        rows = each ∙ sym (links-long F);
-        owned = owners-long F ∙ sym (links-long F);
+        rows = each ∙ sym (links_long F);
+        owned = owners_long F ∙ sym (links_long F);
         named = owner_named F;
       }
 
@@ -62,7 +62,7 @@ module _ {F : Freight} {plan arrivals : List ℕ} (loaded : Loaded F plan arriva
           → Ready (traffic F.nodes dsts dues) owner left plan stamps × (length left ≤ 1024)
       can_run stamps each = (
         rw (traffic_is F laid, owner_is F laid, left_is F laid) (ready stamps each),
-        rw (left_is F laid) (omega (arith, links-long F, loaded.few)),
+        rw (left_is F laid) (omega (arith, links_long F, loaded.few)),
       )
 
       -- What their run gives, with the rows' arrivals gathered from the cells', is what the run of the rows does.

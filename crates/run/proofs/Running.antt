@@ -20,14 +20,14 @@ use lib.ListN.{length, get_or, take, drop, replicate, length-drop, drop_of_lengt
 use lib.ListN.{length-replicate, get_or-replicate, replicate-append-replicate}
 use lib.Seq.{take_at, length-take-le}
 use Rattle.lists.specs.Lists.{total, largest}
-use Rattle.lists.proofs.Figures.{at_most-largest}
+use Rattle.lists.proofs.Figures.{at_most_largest}
 use Rattle.lists.proofs.Build.{length-build, get_or_build, build_ext, build_const, is_build}
 use Rattle.slack.specs.Slack.{Traffic, OnRing, under_way, pick, slot_of, state_at, plan_of}
 use Rattle.slack.specs.Slack.{delivered_from, arrivals_of, any_under_way}
 use Rattle.slack.specs.declared.Stop.{Stop}
 use Rattle.run.specs.declared.Ending.{Ending}
 use Rattle.slack.proofs.Ending.{stop_first, stop_delivered}
-use Rattle.slack.proofs.Rule.{pick_least, plan_length, state-length, state_on_ring, state-less}
+use Rattle.slack.proofs.Rule.{pick_least, plan_length, state_length, state_on_ring, state_less}
 use Rattle.slack.proofs.Rule.{moved_entry, none_under_way}
 use Rattle.slot.specs.Steps.{named, stamped}
 use Rattle.slot.proofs.Sending.{named_there, named_under_way}
@@ -66,7 +66,7 @@ module _ (T : Traffic) (start : List ℕ) where
   idle_slot t d =
       let left = state_at T start t in
       build_ext T.nodes (λ p. pick T t left p (length left)) (λ p. 0)
-      (λ p h. no_pick t p (length left) left (λ i l. d i (omega (arith, state-length T start t))))
+      (λ p h. no_pick t p (length left) left (λ i l. d i (omega (arith, state_length T start t))))
       ∙ build_const T.nodes 0
 
   plan_suc : (t : ℕ) → plan_of T start (suc t) ≡ plan_of T start t ++ carried T start t
@@ -83,7 +83,7 @@ module _ (T : Traffic) (start : List ℕ) where
   idle_on t (suc m) d =
       let e : t + suc m ≡ suc (t + m) = omega arith in
       let z : suc m * T.nodes ≡ m * T.nodes + T.nodes = omega arith in
-      let still : Delivered (t + m) = λ i h. omega (arith, state-less T start i h t (t + m) (omega arith), d i h) in
+      let still : Delivered (t + m) = λ i h. omega (arith, state_less T start i h t (t + m) (omega arith), d i h) in
       rw (e, z, plan_suc (t + m), idle_on t m d, idle_slot (t + m) still, append_assoc, replicate-append-replicate)
 
 -- row i's delivery instant: it is under way at every instant before, and not at that one
@@ -125,12 +125,12 @@ module _ (T : Traffic) (start list : List ℕ) (ring : OnRing T start)
   unfolding stamped_by stamped
   stamp_suc t i h = get_or_build (length (stamped_by T start list t)) _ i 0 (omega (arith, stamps_each t))
 
-  left-suc : (t i : ℕ) → i < length start
+  left_suc : (t i : ℕ) → i < length start
       → togo T start (suc t) i ≡ togo T start t i - cond (named (carried T start t) i) 1 0
   unfolding state_at
-  left-suc t i h =
+  left_suc t i h =
       let left = state_at T start t in
-      let l : i < length left = omega (arith, state-length T start t) in
+      let l : i < length left = omega (arith, state_length T start t) in
       moved_entry T (carried T start t) left i l ∙ rw (← named_there T t left (state_on_ring T start ring t) i l)
 
   -- a delivered row's stamp is its delivery instant
@@ -148,12 +148,12 @@ module _ (T : Traffic) (start list : List ℕ) (ring : OnRing T start)
       go true n (yes d) ih =
           let v : stamp (suc t) i ≡ suc t = stamp_suc t i h ∙ rw n in
           let earlier : (u : ℕ) → u < suc t → 0 < togo T start u i
-          = λ u l. omega (arith, state-less T start i h u t (omega arith)) in
+          = λ u l. omega (arith, state_less T start i h u t (omega arith)) in
           rw v (omega arith, record { there = e; before = earlier })
       go true n (no d) ih =
           absurd (d (named_under_way T t (state_at T start t) (state_on_ring T start ring t) i n))
       go false n (yes d) ih =
-          let w : togo T start (suc t) i ≡ togo T start t i - 0 = left-suc t i h ∙ rw n in
+          let w : togo T start (suc t) i ≡ togo T start t i - 0 = left_suc t i h ∙ rw n in
           absurd (omega arith)
       go false n (no d) ih =
           let v : stamp (suc t) i ≡ stamp t i = stamp_suc t i h ∙ rw n in
@@ -175,7 +175,7 @@ module _ (T : Traffic) (start list : List ℕ) (ring : OnRing T start)
   pub looks_stamped : (t : ℕ) → looks_by t (state_at T start t) (stamped_by T start list t) ≡ looks_to T start (suc t)
   unfolding looks_by
   looks_stamped t =
-      rw (state-length T start t)
+      rw (state_length T start t)
       (ap total (sym (build_ext (length start) (seen T start (suc t)) _ each)) ∙ sym (looks_by_cells T start (suc t)))
     where
       each : (i : ℕ) → i < length start → seen T start (suc t) i ≡ cond (eqb (togo T start t i) 0) (stamp t i) (suc t)
@@ -187,7 +187,7 @@ module _ (T : Traffic) (start list : List ℕ) (ring : OnRing T start)
               seen_there T start i (stamp t i) (suc t) h arrives.before arrives.there (omega (arith, soon))
           go false e =
               seen_waiting T start i (suc t) (λ s l.
-              omega (arith, state-less T start i h s t (omega arith), eqb-false (togo T start t i) 0 e))
+              omega (arith, state_less T start i h s t (omega arith), eqb-false (togo T start t i) 0 e))
 
 split : (n s m l : ℕ) → l ≡ s + m → n * l ≡ s * n + m * n
 split n s m l e = rw e (omega arith)
@@ -260,7 +260,7 @@ module _ {T : Traffic} {owner start plan₀ : List ℕ} {stop : Stop} {left plan
   -- There is a stamp for each cell, and there are not too many of them to count.
   pub each_cell : (length arrivals ≡ length left) × (length left < 2 ^ 16)
   each_cell =
-      let same : length left ≡ length start = ap length o.walked.state ∙ state-length T start end in
+      let same : length left ≡ length start = ap length o.walked.state ∙ state_length T start end in
       (arrivals_each ∙ sym same, omega (arith, o.ready.few))
 
   -- The looks that are counted from what the walk left are those of the run.
@@ -285,7 +285,7 @@ module _ {T : Traffic} {owner start plan₀ : List ℕ} {stop : Stop} {left plan
     done i h =
         let ended = o.walked.stops in
         let none_late = ap (λ s. s.row) (sym ended) ∙ on_time in
-        let all = stop_delivered T start last (λ j l. at_most-largest T.due j) none_late in
+        let all = stop_delivered T start last (λ j l. at_most_largest T.due j) none_late in
         none_under_way (state_at T start end) (ap (λ s. any_under_way (state_at T start s.slot.0)) ended ∙ all) i
 
     abbrev behind : ℕ

@@ -20,14 +20,14 @@ use lib.ListN.{length, take, drop, length-drop}
 use lib.Seq.{take_at, drop_at, drop-drop, length-take-le}
 use Rattle.lists.specs.Lists.{largest}
 use Rattle.lists.proofs.Build.{length-build}
-use Rattle.lists.proofs.Figures.{at_most-largest}
+use Rattle.lists.proofs.Figures.{at_most_largest}
 use Rattle.slack.specs.Slack.{Traffic, traffic, OnRing, is_late, late_from, late_row, slot_of, moved, state_at, plan_of}
 use Rattle.slack.specs.Slack.{any_under_way, stop_from, stop_of}
 use Rattle.slack.specs.Figure.{figures_of}
 use Rattle.slack.specs.declared.Stop.{Stop}
-use Rattle.slack.proofs.Rule.{slot_length, plan_length, state-length, state_on_ring, some_under_way, none_under_way}
+use Rattle.slack.proofs.Rule.{slot_length, plan_length, state_length, state_on_ring, some_under_way, none_under_way}
 use Rattle.slack.proofs.Rule.{late_none, none_late, not_late_then, then_not_late}
-use Rattle.slack.proofs.Figures.{figures-long}
+use Rattle.slack.proofs.Figures.{figures_long}
 use Rattle.slot.specs.Steps.{stamped, Slotted, SlotPlanned, SlotPlannedBy}
 use Rattle.cells.specs.Cells.{told_by}
 use Rattle.cells.specs.Steps.{AtMost}
@@ -81,9 +81,9 @@ module _ (T : Traffic) (start : List ℕ) (t : ℕ) where
   abbrev slot_then : List ℕ
   slot_then = slot_of T t left_then
 
-  state-more : state_at T start (t + 1) ≡ moved T slot_then left_then
+  state_more : state_at T start (t + 1) ≡ moved T slot_then left_then
   unfolding state_at
-  state-more = rw add-one
+  state_more = rw add-one
 
   stamps_more : (list : List ℕ) → stamped_by T start list (t + 1) ≡ stamped slot_then (suc t) (stamped_by T start list t)
   unfolding stamped_by
@@ -172,7 +172,7 @@ module _ {T : Traffic} {owner start plan₀ arrivals₀ : List ℕ} {t late : �
   -- there are as many figures as there were at the start
   pub figures_kept : {figures₀ : List ℤ} → figures₀ ≡ figures_of T start → length figures ≡ length figures₀
   figures_kept e =
-      ap length g.figured ∙ figures-long T left ∙ g.left_long ∙ sym (ap length e ∙ figures-long T start)
+      ap length g.figured ∙ figures_long T left ∙ g.left_long ∙ sym (ap length e ∙ figures_long T start)
 
   ended : (row : ℕ) → late_row T t left ≡ row → any_under_way left && eqb (late_row T t left) 0 ≡ false
       → Walked T owner start plan₀ arrivals₀ (ending row t) left figures plan arrivals
@@ -217,7 +217,7 @@ module _ {T : Traffic} {owner start plan₀ arrivals₀ : List ℕ} {t late : �
   before_last =
       let (i, inside, some) = some_under_way left k.busy in
       let due = not_late_then T t left i (late_none T t left k.on_time i inside) some in
-      omega (arith, due, at_most-largest T.due i)
+      omega (arith, due, at_most_largest T.due i)
 
   pub before_end : t < 65535
   before_end = omega (arith, before_last, k.going.ready.soon)
@@ -242,7 +242,7 @@ module _ {T : Traffic} {owner start plan₀ arrivals₀ : List ℕ} {t late : �
         ring = on_ring k.going;
         figured = k.going.figured;
         few = omega (arith, k.going.left_long, k.going.ready.few);
-        small = λ i l. omega (arith, at_most-largest T.due i, k.going.ready.soon);
+        small = λ i l. omega (arith, at_most_largest T.due i, k.going.ready.soon);
         soon = omega (arith, before_end);
         links = part_long;
         rows = k.going.arrivals_long ∙ k.going.ready.rows ∙ sym k.going.left_long;
@@ -253,7 +253,7 @@ module _ {T : Traffic} {owner start plan₀ arrivals₀ : List ℕ} {t late : �
       (told : slot ≡ told_by owner sent) (done : SlotPlanned T t left arrivals sent left' figures' arrivals') where
     next_state : left' ≡ state_at T start (t + 1)
     next_state =
-        done.moves ∙ ap (λ l. moved T (slot_of T t l) l) k.going.state ∙ sym (state-more T start t)
+        done.moves ∙ ap (λ l. moved T (slot_of T t l) l) k.going.state ∙ sym (state_more T start t)
 
     next_stamps : arrivals' ≡ stamped_by T start arrivals₀ (t + 1)
     next_stamps = done.stamps ∙ rw (k.going.state, k.going.stamps) (sym (stamps_more T start t arrivals₀))
@@ -281,7 +281,7 @@ module _ {T : Traffic} {owner start plan₀ arrivals₀ : List ℕ} {t late : �
           figured = done.figures ∙ ap (figures_of T) (sym done.moves);
           carried = next_plan;
           stamps = next_stamps;
-          left_long = ap length next_state ∙ state-length T start (t + 1);
+          left_long = ap length next_state ∙ state_length T start (t + 1);
           plan_long = same_len_mid first_link links plan slot slot_long ∙ k.going.plan_long;
           arrivals_long =
               ap length done.stamps ∙ stamped-length (slot_of T t left) (suc t) arrivals ∙ k.going.arrivals_long;

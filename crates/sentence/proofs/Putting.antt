@@ -1,6 +1,6 @@
 -- Bytes of a catalogue written into an area.
 --     no_room, put_whole                               22, and else the bytes in the front of the area
---     spoken-long, spoken_pieces                       a string with a row and a slot: its length, and its three pieces
+--     spoken_long, spoken_pieces                       a string with a row and a slot: its length, and its three pieces
 --     row_fits, slot_fits, spoken_put                  the three written one behind the other
 --     in_list, not_in_list                             a number that has a string, and one that has none
 --     is_field, no_field, label_string                 a field, and the string of its line
@@ -48,9 +48,9 @@ module _ (bytes area : List ℕ) where
       }
 
 module _ (string : List ℕ) (row slot : ℕ) where
-  pub spoken-long : length (spoken string row slot) ≡ length string + width row + width slot + 2
+  pub spoken_long : length (spoken string row slot) ≡ length string + width row + width slot + 2
   unfolding spoken
-  spoken-long = simp length-append (omega (arith, numeral-length row, numeral-length slot))
+  spoken_long = simp length-append (omega (arith, numeral-length row, numeral-length slot))
 
   pub spoken_pieces : string ++ (item (32 ∷ []) row 32 ++ numeral slot) ≡ spoken string row slot
   unfolding spoken
@@ -64,7 +64,7 @@ module _ (string area : List ℕ) (row slot : ℕ) (fits : length (spoken string
   pieces : 0 + (length string + length between + length (numeral slot)) ≤ length area
   pieces =
       let long : length between ≡ length (numeral row) + 2 = simp length-append (omega arith) in
-      omega (arith, spoken-long string row slot, numeral-length row, numeral-length slot)
+      omega (arith, spoken_long string row slot, numeral-length row, numeral-length slot)
 
   module _ (p₁ : ℕ) (area₁ : List ℕ) (one : (p₁ ≡ 0 + length string) × (area₁ ≡ pasted area 0 string)) where
     pub row_fits : p₁ + length between ≤ length area₁
@@ -80,7 +80,7 @@ module _ (string area : List ℕ) (row slot : ℕ) (fits : length (spoken string
       spoken_put {n} {area₃} e so =
           let here = three_placed area 0 string between (numeral slot) pieces p₁ area₁ one.0 one.1 in
           let put = here p₂ area₂ two.0 two.1 area₃ so ∙ ap (pasted area 0) (spoken_pieces string row slot) in
-          put_whole (spoken string row slot) area (e ∙ sym (spoken-long string row slot)) fits put
+          put_whole (spoken string row slot) area (e ∙ sym (spoken_long string row slot)) fits put
 
 -- Whether a list has a number, by its place.
 module _ (x : ℕ) (list : List ℕ) where

@@ -3,7 +3,7 @@
 --     two_fields_two_labels       two fields have two labels
 --     one_sentence, one_label     two outcomes that fit a promise are equal
 --     untouched                   a refusal leaves the area as it was
---     written-fits, written_taken what is written lies within the area
+--     written_fits, written_taken what is written lies within the area
 -- Assumes nothing.
 use mathlib.Core.Path.{◌≡◌, refl, ◌∙◌, ap, sym}
 use mathlib.Core.Bool.{Bool, true, false, cond}
@@ -91,12 +91,12 @@ written (Written k) = k
 written (NotWritten r) = 0
 
 -- It is those that were to be written, or none.
-few-written : (v : Verdict) (found : Bool) (bytes : List ℕ) (lent : ℕ)
+few_written : (v : Verdict) (found : Bool) (bytes : List ℕ) (lent : ℕ)
     → written (after_verdict v found bytes lent) ≤ length bytes
 unfolding written after_verdict room_for
-few-written (Refused r) found bytes lent = omega arith
-few-written Good false bytes lent = omega arith
-few-written Good true bytes lent = go (ltb lent (length bytes))
+few_written (Refused r) found bytes lent = omega arith
+few_written Good false bytes lent = omega arith
+few_written Good true bytes lent = go (ltb lent (length bytes))
   where
     go : (b : Bool) → written (cond b (NotWritten (refuse 22 0 0)) (Written (length bytes))) ≤ length bytes
     go true = omega arith
@@ -105,15 +105,15 @@ few-written Good true bytes lent = go (ltb lent (length bytes))
 -- What is written lies within the area, as a caller needs that lends it on.
 module _ {text : List ℕ} {found : Bool} {bytes area area' : List ℕ} {w : Writing} {k : ℕ}
     (p : Put text found bytes area w area') (e : w ≡ Written k) where
-  pub written-fits : k ≤ length area'
+  pub written_fits : k ≤ length area'
   unfolding written area_after
-  written-fits =
-      let few = few-written (verdict_on text) found bytes (length area) in
+  written_fits =
+      let few = few_written (verdict_on text) found bytes (length area) in
       let long = ap length p.fills ∙ ap (λ (w : Writing). length (area_after w bytes area)) e in
       omega (arith, ap written (sym e ∙ p.answers), few, long, length-append bytes (drop (length bytes) area))
 
   pub written_taken : k ≡ length (take k area')
-  written_taken = sym (length-take-le k area' written-fits)
+  written_taken = sym (length-take-le k area' written_fits)
 
 -- One call has one sentence, and one label.
 module _ {text area area₁ area₂ : List ℕ} {w₁ w₂ : Writing} where

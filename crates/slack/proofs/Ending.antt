@@ -15,7 +15,7 @@ use lib.ListN.{length, get_or}
 use Rattle.slack.specs.Slack.{Traffic, late_row, state_at, any_under_way, stop_from, stop_of}
 use Rattle.slack.specs.declared.Stop.{Stop}
 use Rattle.lists.proofs.Truth.{differ, both_hold, not_both}
-use Rattle.slack.proofs.Rule.{late_none, not_late_then, state-length, some_under_way}
+use Rattle.slack.proofs.Rule.{late_none, not_late_then, state_length, some_under_way}
 
 -- the run ends at instant t, with the lowest row that is late in the state left
 abbrev ending : Traffic → ℕ → List ℕ → Stop
@@ -127,6 +127,6 @@ module _ (T : Traffic) (start : List ℕ) where
           absurd (differ (sym h ∙ eq-eqb (late_row T end left) 0 none_late))
       go true e (no d) =
           let (i, inside, links) = some_under_way left e in
-          let known : i < length start = rw (state-length T start end) at inside in
+          let known : i < length start = rw (state_length T start end) at inside in
           let before-due = not_late_then T end left i (late_none T end left none_late i inside) links in
           absurd (omega (arith, dues i known, (stop_first slots).within))

@@ -5,7 +5,7 @@
 --     slack_by_figure     slack is the figure and the node, less the instant
 --     same_order          at one node two rows compare by figure as they do by slack: the paper's Theorem 1
 --     corrected_past_0, kept_elsewhere     what a move does to the figure
---     figure_at, figures-long     the list of figures
+--     figure_at, figures_long     the list of figures
 --     same_order_at, figure_next     the two laws above of the rows of a state, and of a slot of the rule
 --     only_past_0, corrected_once     a figure changes only on the step from node N - 1 to node 0, and once in a run
 -- Assumes nothing.
@@ -25,8 +25,8 @@ use Rattle.ring.proofs.Turn.{short_of_zero, past_zero}
 use Rattle.slack.specs.Slack.{Traffic, OnRing, place, slack_of, slack, slot_of, moved, state_at}
 use Rattle.slack.specs.Figure.{turn_of, figure_of, figure, figures_of}
 use Rattle.slack.proofs.Signed.{below, above, slack_is, slack_compared, differences_compared, less_of_difference}
-use Rattle.slack.proofs.Rule.{Stands, slot_names, place_inside, moved_sent, moved-waits}
-use Rattle.slack.proofs.Rule.{state-length, state_on_ring, state-less}
+use Rattle.slack.proofs.Rule.{Stands, slot_names, place_inside, moved_sent, moved_waits}
+use Rattle.slack.proofs.Rule.{state_length, state_on_ring, state_less}
 
 -- The figure is the due slot less the sum of the destination and the turn.
 pub figure_is : (n dst due left : ℕ) → figure_of n dst due left ≡ sub_ℕ due (dst + turn_of n dst left)
@@ -177,9 +177,9 @@ module _ (n dst due left : ℕ) (inside : dst < n) (most : left ≤ n) (way : 0 
 
 -- The figures of all rows: one for each, and the row's own.
 module _ (T : Traffic) (left : List ℕ) where
-  pub figures-long : length (figures_of T left) ≡ length left
+  pub figures_long : length (figures_of T left) ≡ length left
   unfolding figures_of
-  figures-long = length-build (length left) (figure T left)
+  figures_long = length-build (length left) (figure T left)
 
   pub figure_at : (i : ℕ) → i < length left → get_or (figures_of T left) i (pos 0) ≡ figure T left i
   unfolding figures_of
@@ -244,7 +244,7 @@ module _ (T : Traffic) (left : List ℕ) (ring : OnRing T left) (t : ℕ) where
           e_last : suc (place T left i) ≡ n → last ≡ place T left i
           e_last e = omega arith
       go false ea false eb =
-          ap with_links (moved-waits T slot left i h (eqb-false (get_or slot (place T left i) 0) (suc i) eb))
+          ap with_links (moved_waits T slot left i h (eqb-false (get_or slot (place T left i) 0) (suc i) eb))
 
   -- A row whose figure is corrected in a slot: the last link carries it, from node N - 1 to node 0, and N is added.
   pub record Corrected (i : ℕ) : Type 0 where
@@ -289,13 +289,13 @@ module _ (T : Traffic) (start : List ℕ) (ring : OnRing T start) (i : ℕ) (h :
   change : (t : ℕ) → Changes t → Corrected T (state_at T start t) (state_on_ring T start ring t) t i
   unfolding state_at
   change t =
-      only_past_0 T (state_at T start t) (state_on_ring T start ring t) t i (omega (arith, state-length T start t))
+      only_past_0 T (state_at T start t) (state_on_ring T start ring t) t i (omega (arith, state_length T start t))
 
   -- a change before another: the row has passed node 0 already
   earlier : (t s : ℕ) → t < s → Changes t → Changes s → ⊥
   unfolding state_at
   earlier t s l a b =
-      let fewer = state-less T start i h (suc t) s l in
+      let fewer = state_less T start i h (suc t) s l in
       let gone : get_or (state_at T start (suc t)) i 0 ≡ get_or T.dst i 0 = (change t a).past in
       omega (arith, fewer, gone, (change s b).beyond)
 

@@ -1,6 +1,6 @@
 -- What document 01 says of the sending rule, shown of its definitions.
 --     late_then .. then_not_late, late_lowest, late_none     which row is late
---     pick_least, pick-none, slot_names                      which row a node sends
+--     pick_least, pick_none, slot_names                      which row a node sends
 --     place_inside, moved-.., run-.., state-..               where a row stands, how a slot changes the state
 --     slot_length, plan_length                               how long a slot and a plan are
 --     none_under_way, some_under_way                         when all are delivered
@@ -267,9 +267,9 @@ module _ (T : Traffic) (t : ℕ) (left : List ℕ) (p : ℕ) where
   pick_least k i e = rw e at (chosen k)
 
   -- A node sends nothing only where no row under way stands there.
-  pub pick-none : (k : ℕ) → pick T t left p k ≡ 0 → (j : ℕ) → j < k → Stands T left p j → ⊥
+  pub pick_none : (k : ℕ) → pick T t left p k ≡ 0 → (j : ℕ) → j < k → Stands T left p j → ⊥
   unfolding Chosen Empty
-  pick-none k e = rw e at (chosen k)
+  pick_none k e = rw e at (chosen k)
 
 -- ---- where a row stands, and what a slot does
 
@@ -299,13 +299,13 @@ module _ (T : Traffic) (slot left : List ℕ) where
   pub moved_sent : (i : ℕ) → i < length left → sent i ≡ suc i → links (moved T slot left) i ≡ links left i - 1
   moved_sent i l e = moved_entry i l ∙ rw (eq-eqb (sent i) (suc i) e)
 
-  pub moved-waits : (i : ℕ) → i < length left → (sent i ≡ suc i → ⊥) → links (moved T slot left) i ≡ links left i
-  moved-waits i l e =
+  pub moved_waits : (i : ℕ) → i < length left → (sent i ≡ suc i → ⊥) → links (moved T slot left) i ≡ links left i
+  moved_waits i l e =
       let z : links left i - 0 ≡ links left i = omega arith in
       moved_entry i l ∙ rw (ne_eqb (sent i) (suc i) e, z)
 
-  pub moved-less : (i : ℕ) → i < length left → links (moved T slot left) i ≤ links left i
-  moved-less i l = rw (moved_entry i l) (omega arith)
+  pub moved_less : (i : ℕ) → i < length left → links (moved T slot left) i ≤ links left i
+  moved_less i l = rw (moved_entry i l) (omega arith)
 
   pub moved_by_one : (i : ℕ) → i < length left → links left i ≤ suc (links (moved T slot left) i)
   moved_by_one i l = rw (moved_entry i l) (go (eqb (sent i) (suc i)))
@@ -320,7 +320,7 @@ module _ (T : Traffic) (slot left : List ℕ) where
     where
       go : Dec (sent i ≡ suc i) → sent i ≡ suc i
       go (yes e) = e
-      go (no e) = absurd (omega (arith, moved-waits i l e))
+      go (no e) = absurd (omega (arith, moved_waits i l e))
 
   -- A slot keeps the state a state of the ring.
   pub moved_on_ring : OnRing T left → OnRing T (moved T slot left)
@@ -332,7 +332,7 @@ module _ (T : Traffic) (slot left : List ℕ) where
         dst_inside = λ i l. ring.dst_inside i (rw moved_length at l);
         left_inside = λ i l.
             let h = rw moved_length at l in
-            omega (arith, moved-less i h, ring.left_inside i h);
+            omega (arith, moved_less i h, ring.left_inside i h);
       }
 
 -- A run: each state is the one before it, changed by a slot, whoever named the slots.
@@ -354,23 +354,23 @@ module _ (T : Traffic) (state slot : ℕ → List ℕ) (next : (t : ℕ) → sta
       go : Dec (s < t) → (t ≤ s → links (state s) i ≤ links (state t) i) → links (state (suc s)) i ≤ links (state t) i
       go (yes d) more = let e : t ≡ suc s = omega arith in rw e (omega arith)
       go (no d) more =
-          let fewer = moved-less T (slot s) (state s) i (omega (arith, run_length s)) in
+          let fewer = moved_less T (slot s) (state s) i (omega (arith, run_length s)) in
           rw (next s) (omega (arith, more (omega arith), fewer))
 
 -- The rule's own run.
 module _ (T : Traffic) (start : List ℕ) where
-  pub state-length : (t : ℕ) → length (state_at T start t) ≡ length start
+  pub state_length : (t : ℕ) → length (state_at T start t) ≡ length start
   unfolding state_at
-  state-length = run_length T (state_at T start) (λ t. slot_of T t (state_at T start t)) (λ t. refl)
+  state_length = run_length T (state_at T start) (λ t. slot_of T t (state_at T start t)) (λ t. refl)
 
   pub state_on_ring : OnRing T start → (t : ℕ) → OnRing T (state_at T start t)
   unfolding state_at
   state_on_ring = run_on_ring T (state_at T start) (λ t. slot_of T t (state_at T start t)) (λ t. refl)
 
-  pub state-less : (i : ℕ) → i < length start → (t s : ℕ) → t ≤ s
+  pub state_less : (i : ℕ) → i < length start → (t s : ℕ) → t ≤ s
       → links (state_at T start s) i ≤ links (state_at T start t) i
   unfolding state_at
-  state-less = run_less T (state_at T start) (λ t. slot_of T t (state_at T start t)) (λ t. refl)
+  state_less = run_less T (state_at T start) (λ t. slot_of T t (state_at T start t)) (λ t. refl)
 
 -- The rule's slot has an entry for each link, the row that the node there sends.
 module _ (T : Traffic) (t : ℕ) (left : List ℕ) where

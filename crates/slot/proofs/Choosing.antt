@@ -16,7 +16,7 @@ use Rattle.lists.proofs.Build.{build_ext}
 use Rattle.slack.specs.Slack.{Traffic, OnRing, under_way, place, slack, better, pick, slot_of, moved}
 use Rattle.slack.specs.Figure.{figure, figures_of}
 use Rattle.slack.proofs.Rule.{pick_least, moved_length}
-use Rattle.slack.proofs.Figures.{figures-long, figure_at, same_order_at, figure_next}
+use Rattle.slack.proofs.Figures.{figures_long, figure_at, same_order_at, figure_next}
 use Rattle.slot.specs.Steps.{Board, board, stands_at, lower, lowest, seen, turned}
 
 module _ (T : Traffic) (left : List ℕ) (ring : OnRing T left) (t : ℕ) where
@@ -24,11 +24,11 @@ module _ (T : Traffic) (left : List ℕ) (ring : OnRing T left) (t : ℕ) where
   B = board T.nodes T.dst left (figures_of T left)
 
   -- row i has a lower figure, or less slack, than row j
-  abbrev lower-figure : (i j : ℕ) → Bool
-  lower-figure i j = lt_z (get_or (figures_of T left) i (pos 0)) (get_or (figures_of T left) j (pos 0))
+  abbrev lower_figure : (i j : ℕ) → Bool
+  lower_figure i j = lt_z (get_or (figures_of T left) i (pos 0)) (get_or (figures_of T left) j (pos 0))
 
-  abbrev less-slack : (i j : ℕ) → Bool
-  less-slack i j = lt_z (slack T t left i) (slack T t left j)
+  abbrev less_slack : (i j : ℕ) → Bool
+  less_slack i j = lt_z (slack T t left i) (slack T t left j)
 
   lower_is_better : (p best i : ℕ) → i < length left → pick T t left p i ≡ best
       → lower B p best i ≡ better T t left p best i
@@ -41,9 +41,9 @@ module _ (T : Traffic) (left : List ℕ) (ring : OnRing T left) (t : ℕ) where
       rw (figure_at T left i h, figure_at T left b inside)
       (same_order_at T left ring t p i b h inside here rival.stands.here))
     where
-      go : (q : Bool) → eqb (place T left i) p ≡ q → (place T left i ≡ p → lower-figure i b ≡ less-slack i b)
-          → under_way left i && (q && (eqb (suc b) 0 || lower-figure i b))
-          ≡ under_way left i && (q && (eqb (suc b) 0 || less-slack i b))
+      go : (q : Bool) → eqb (place T left i) p ≡ q → (place T left i ≡ p → lower_figure i b ≡ less_slack i b)
+          → under_way left i && (q && (eqb (suc b) 0 || lower_figure i b))
+          ≡ under_way left i && (q && (eqb (suc b) 0 || less_slack i b))
       go true q order = rw (order (eqb-true (place T left i) p q))
       go false q order = refl
 
@@ -68,7 +68,7 @@ module _ (T : Traffic) (left : List ℕ) (ring : OnRing T left) (t : ℕ) where
   pub figures_next : turned T.nodes (slot_of T t left) (figures_of T left) ≡ figures_of T next
   unfolding turned figures_of
   figures_next =
-      rw (figures-long T left, moved_length T (slot_of T t left) left)
+      rw (figures_long T left, moved_length T (slot_of T t left) left)
       (build_ext (length left) after (figure T next) one)
     where
       after : ℕ → ℤ

@@ -73,8 +73,8 @@ module _ (B : Board) (i : ℕ) where
     took e = ap (set (seen B i) p) (add-one i ∙ sym (chosen p (here_is ∙ e))) ∙ one_seen p at
 
     -- the first row that the node holds
-    pub first-seen : so_far p ≡ 0 → set (seen B i) p (i + 1) ≡ seen B (suc i)
-    first-seen e = took (rw (e))
+    pub first_seen : so_far p ≡ 0 → set (seen B i) p (i + 1) ≡ seen B (suc i)
+    first_seen e = took (rw (e))
 
     -- a row with a lower figure than the one before
     pub tighter_seen : below B i (pred (so_far p)) ≡ true → set (seen B i) p (i + 1) ≡ seen B (suc i)
@@ -86,19 +86,19 @@ module _ (B : Board) (i : ℕ) where
         sym (one_seen p at) ∙ rw (passed p (here_is ∙ rw (ne_eqb (so_far p) 0 some, e)), ← best_is, set-get_or)
 
 -- before the first row every link is idle
-pub none-looked : (B : Board) (n : ℕ) → n ≡ B.nodes → replicate {A = ℕ} n 0 ≡ seen B 0
+pub none_looked : (B : Board) (n : ℕ) → n ≡ B.nodes → replicate {A = ℕ} n 0 ≡ seen B 0
 unfolding seen lowest
-none-looked B n e = rw e (sym (build_const B.nodes 0))
+none_looked B n e = rw e (sym (build_const B.nodes 0))
 
 pub seen-length : (B : Board) (i : ℕ) → length (seen B i) ≡ B.nodes
 unfolding seen
 seen-length B i = length-build B.nodes (λ p. lowest B p i)
 
 -- none but the rows looked at can be named
-pub lowest-few : (B : Board) (p i : ℕ) → lowest B p i ≤ i
+pub lowest_few : (B : Board) (p i : ℕ) → lowest B p i ≤ i
 unfolding lowest
-lowest-few B p zero = omega arith
-lowest-few B p (suc i) = go (lower B p (lowest B p i) i) (lowest-few B p i)
+lowest_few B p zero = omega arith
+lowest_few B p (suc i) = go (lower B p (lowest B p i) i) (lowest_few B p i)
   where
     go : (b : Bool) → lowest B p i ≤ i → cond b (suc i) (lowest B p i) ≤ suc i
     go true h = omega arith
@@ -133,12 +133,12 @@ module _ {B : Board} {i : ℕ} {slot : List ℕ} {p : ℕ} (k : Standing B i slo
   best_was = rw k.looking.so_far (best_is B i p k.at inside way)
 
   pub first : get_or slot p 0 ≡ 0 → set slot p (i + 1) ≡ seen B (suc i)
-  first e = rw k.looking.so_far (first-seen B i p k.at inside way (sym best_was ∙ e))
+  first e = rw k.looking.so_far (first_seen B i p k.at inside way (sym best_was ∙ e))
 
   module _ (held : get_or slot p 0 ≡ 0 → ⊥) where
     -- the row that the node would send so far
     pub rival_is : get_or slot p 0 - 1 < length B.left
-    rival_is = omega (arith, best_was, lowest-few B p i, k.looking.row)
+    rival_is = omega (arith, best_was, lowest_few B p i, k.looking.row)
 
     rival : get_or slot p 0 - 1 ≡ pred (lowest B p i)
     rival = rw (sub-one, best_was)

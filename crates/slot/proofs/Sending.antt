@@ -78,9 +78,9 @@ module _ {slot left arrivals : List ℕ} (k : Sending slot left arrivals) (end :
   abbrev arrivals_at : ℕ → List ℕ
   arrivals_at p = stamped (take p slot) end arrivals
 
-  pub left-first : left ≡ left_at 0
+  pub left_first : left ≡ left_at 0
   unfolding less named
-  left-first = sym (build_of (length left) 0 left refl) ∙ build_ext (length left) _ _ (λ j l. omega arith)
+  left_first = sym (build_of (length left) 0 left refl) ∙ build_ext (length left) _ _ (λ j l. omega arith)
 
   pub arrivals_first : arrivals ≡ arrivals_at 0
   unfolding stamped named
@@ -131,8 +131,8 @@ module _ {slot left arrivals : List ℕ} (k : Sending slot left arrivals) (end :
       unfolding less
       left_was = get_or_build (length left) _ row 0 row_inside ∙ rw not_before (omega arith)
 
-      pub left-some : 1 ≤ get_or (left_at p) row 0
-      left-some = rw left_was (k.to_go p row h is_row).1
+      pub left_some : 1 ≤ get_or (left_at p) row 0
+      left_some = rw left_was (k.to_go p row h is_row).1
 
       go : set (left_at p) row (get_or left row 0 - 1) ≡ left_at (p + 1)
       unfolding less

@@ -14,11 +14,11 @@ use Rattle.lists.proofs.Build.{get_or_build}
 use Rattle.slack.specs.Slack.{Traffic, traffic, OnRing, slot_of}
 use Rattle.slack.specs.Figure.{turn_of, figure, figures_of}
 use Rattle.slack.proofs.Signed.{difference_range}
-use Rattle.slack.proofs.Figures.{figure_is, figures-long, figure_at}
+use Rattle.slack.proofs.Figures.{figure_is, figures_long, figure_at}
 use Rattle.slot.specs.Steps.{board, Placed, lowest, seen, turned, less, stamped}
 use Rattle.slot.specs.Steps.{Turning, Sending, Slotted, SlotPlanned}
 use Rattle.slot.proofs.Choosing.{chosen_is_least}
-use Rattle.slot.proofs.Looking.{seen-length, lowest-few}
+use Rattle.slot.proofs.Looking.{seen-length, lowest_few}
 use Rattle.slot.proofs.Sending as sending
 
 -- The slot that is chosen by figures is that of least slack.
@@ -42,7 +42,7 @@ module _ {n : ℕ} {dst : List ℕ} {t : ℕ} {left : List ℕ} {figures : List 
   T = traffic n dst k.due
 
   as_many : length figures ≡ length left
-  as_many = ap length k.figured ∙ figures-long T left
+  as_many = ap length k.figured ∙ figures_long T left
 
   pub can_choose : Placed (board n dst left figures)
   can_choose =
@@ -53,34 +53,34 @@ module _ {n : ℕ} {dst : List ℕ} {t : ℕ} {left : List ℕ} {figures : List 
         left_inside = k.ring.left_inside;
       }
 
-  figure-small : n < 2 ^ 16 → (i : ℕ) → i < length left → mag (get_or figures i (pos 0)) < 2 ^ 30
+  figure_small : n < 2 ^ 16 → (i : ℕ) → i < length left → mag (get_or figures i (pos 0)) < 2 ^ 30
   unfolding figure
-  figure-small h i l =
+  figure_small h i l =
       let d = get_or dst i 0 in
       let due = get_or k.due i 0 in
       let links = get_or left i 0 in
       let turn = turn_of n d links in
-      let due-small : due < 2 ^ 30 = omega (arith, k.small i l) in
+      let due_small : due < 2 ^ 30 = omega (arith, k.small i l) in
       let sum_small : d + turn < 2 ^ 30 = omega (arith, k.ring.dst_inside i l, turn_most n d links) in
       rw (k.figured, figure_at T left i l, figure_is n d due links)
-      (difference_range due (d + turn) (2 ^ 30) due-small sum_small)
+      (difference_range due (d + turn) (2 ^ 30) due_small sum_small)
 
   module _ (s : List ℕ) (so : s ≡ seen (board n dst left figures) (length left)) where
-    last-named : get_or s (n - 1) 0 ≤ length left
+    last_named : get_or s (n - 1) 0 ≤ length left
     unfolding seen
-    last-named =
+    last_named =
         let B = board n dst left figures in
         let last : n - 1 < n = omega (arith, k.ring.some_node) in
         rw (so, get_or_build n (λ p. lowest (board n dst left figures) p (length left)) (n - 1) 0 last)
-        (lowest-few (board n dst left figures) (n - 1) (length left))
+        (lowest_few (board n dst left figures) (n - 1) (length left))
 
     pub can_turn : n < 2 ^ 16 → Turning n s figures
     can_turn h =
         record {
           some_node = k.ring.some_node;
           links = ap length so ∙ seen-length (board n dst left figures) (length left);
-          names = omega (arith, last-named, as_many);
-          small = λ i l. figure-small h i (omega (arith, as_many));
+          names = omega (arith, last_named, as_many);
+          small = λ i l. figure_small h i (omega (arith, as_many));
         }
 
     pub can_send : Sending s left arrivals

@@ -25,7 +25,7 @@ use Rattle.table.specs.declared.Row.{Row}
 use Rattle.table.specs.declared.Refusal.{Refusal}
 use Rattle.table.specs.declared.Verdict.{Verdict}
 use Rattle.table.specs.declared.Verdict.TheVariants.{Good, Refused}
-use Rattle.table.specs.Table.{latest_due, most-length, most_cells, refuse, row_refusal, judge_rows, judge_all}
+use Rattle.table.specs.Table.{latest_due, most_length, most_cells, refuse, row_refusal, judge_rows, judge_all}
 use Rattle.table.specs.Table.{after_rows, cells_in, destinations, lengths, dues, distances}
 use Rattle.table.specs.Steps.{none, rows_of, SameRows}
 
@@ -97,7 +97,7 @@ pub record GoodRow (n : ℕ) (r : Row) : Type 0 where
   pub src_inside : r.src < n
   pub dst_inside : r.dst < n
   pub len_some : 0 < r.len
-  pub len_most : r.len ≤ most-length
+  pub len_most : r.len ≤ most_length
   pub due_some : 0 < r.due
   pub due_most : r.due ≤ latest_due
 
@@ -105,10 +105,10 @@ good_row : (n : ℕ) (r : Row) → row_refusal n r ≡ 0 → GoodRow n r
 unfolding row_refusal
 good_row n r e =
     go (leb n r.src) refl (leb n r.dst) refl (eqb r.len 0) refl
-    (ltb most-length r.len) refl (eqb r.due 0) refl (ltb latest_due r.due) refl e
+    (ltb most_length r.len) refl (eqb r.due 0) refl (ltb latest_due r.due) refl e
   where
     go : (a : Bool) → leb n r.src ≡ a → (b : Bool) → leb n r.dst ≡ b
-        → (g : Bool) → eqb r.len 0 ≡ g → (h : Bool) → ltb most-length r.len ≡ h
+        → (g : Bool) → eqb r.len 0 ≡ g → (h : Bool) → ltb most_length r.len ≡ h
         → (d : Bool) → eqb r.due 0 ≡ d → (f : Bool) → ltb latest_due r.due ≡ f
         → ◌≡◌ {A = ℕ} (cond a 3 (cond b 4 (cond (g || h) 10 (cond (d || f) 6 0)))) 0 → GoodRow n r
     go true ha b hb g hg h hh d hd f hf z = absurd (omega arith)
@@ -122,7 +122,7 @@ good_row n r e =
           src_inside = leb-false n r.src ha;
           dst_inside = leb-false n r.dst hb;
           len_some = omega (arith, eqb-false r.len 0 hg);
-          len_most = ltb-false most-length r.len hh;
+          len_most = ltb-false most_length r.len hh;
           due_some = omega (arith, eqb-false r.due 0 hd);
           due_most = ltb-false latest_due r.due hf;
         }
@@ -147,7 +147,7 @@ good_rows n (r ∷ rs) above e i h = go (row_refusal n r) refl e i h (good_rows 
 row_not_late : (n : ℕ) (x : Row) → row_refusal n x ≡ 9 → ⊥
 unfolding row_refusal
 row_not_late n x =
-    go (leb n x.src) (leb n x.dst) (eqb x.len 0 || ltb most-length x.len)
+    go (leb n x.src) (leb n x.dst) (eqb x.len 0 || ltb most_length x.len)
     (eqb x.due 0 || ltb latest_due x.due)
   where
     go : (a b c d : Bool) → ◌≡◌ {A = ℕ} (cond a 3 (cond b 4 (cond c 10 (cond d 6 0)))) 9 → ⊥

@@ -1,7 +1,7 @@
 -- The columns of a list of rows, and the rows that columns hold.
 --     column_at                   a column holds what the list holds, 0 behind it
 --     length-listed               as many rows as were asked for
---     listed-columns              at most 512 rows are all there again in their columns
+--     listed_columns              at most 512 rows are all there again in their columns
 --     rows_of_columns, same_rows      the rows that columns of just their length hold
 --     listed_fronts, fronts_same      those of the columns' fronts
 -- Assumes nothing.
@@ -64,9 +64,9 @@ row_of_lem rows i l =
     same_row (get_or rows i none) (entry (λ r. r.src) refl rows i l) (entry (λ r. r.dst) refl rows i l)
     (entry (λ r. r.len) refl rows i l) (entry (λ r. r.due) refl rows i l)
 
-pub listed-columns : (rows : List Row) → length rows ≤ 512 → listed (length rows) (columns rows) ≡ rows
+pub listed_columns : (rows : List Row) → length rows ≤ 512 → listed (length rows) (columns rows) ≡ rows
 unfolding listed
-listed-columns rows few =
+listed_columns rows few =
     build_ext (length rows) (row_of (columns rows)) (λ i. get_or rows i none) (λ i l. row_of_lem rows i (omega arith))
     ∙ build_of (length rows) none rows refl
 

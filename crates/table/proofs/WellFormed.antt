@@ -10,10 +10,10 @@ use borrow.Author.Tests.{lt-leb, ne_eqb, le-ltb}
 use lib.ListN.{length, get_or}
 use Rattle.table.specs.declared.Row.{Row}
 use Rattle.table.specs.declared.Verdict.TheVariants.{Good}
-use Rattle.table.specs.Table.{WellFormed, row_refusal, judge_rows, cells_in, most_cells, most-length, latest_due}
+use Rattle.table.specs.Table.{WellFormed, row_refusal, judge_rows, cells_in, most_cells, most_length, latest_due}
 use Rattle.table.specs.Steps.{none}
 use Rattle.table.proofs.Judging.{GoodRow, good_rows, all_few}
-use Rattle.table.proofs.Whole.{sound, judge-each}
+use Rattle.table.proofs.Whole.{sound, judge_each}
 
 -- N is 2 to 32, there are at most 512 rows with at most 1,024 cells in all, and of each row the source and the
 -- destination lie below N, the length is 1 to 64 and the due slot 1 to 1,024 (`GoodRow`).
@@ -32,7 +32,7 @@ nothing_wrong n r good =
       lt-leb n r.src good.src_inside,
       lt-leb n r.dst good.dst_inside,
       ne_eqb r.len 0 (λ e. omega (arith, good.len_some)),
-      le-ltb most-length r.len good.len_most,
+      le-ltb most_length r.len good.len_most,
       ne_eqb r.due 0 (λ e. omega (arith, good.due_some)),
       le-ltb latest_due r.due good.due_most,
     )
@@ -58,6 +58,6 @@ well_formed_iff n rows = (
         each_row = good_rows n rows 0 s.each;
       },
   λ c.
-      judge-each n rows c.nodes_least c.nodes_most c.rows_most
+      judge_each n rows c.nodes_least c.nodes_most c.rows_most
       ∙ all_few n rows (all_let_through n rows 0 c.each_row) c.cells_most,
 )

@@ -1,9 +1,10 @@
 -- The judgement of a whole table.
---     judge-few, judge_wide, judge_many, judge-each      by the nodes, the number of rows, the rows and their cells
+--     judge_few, judge_wide, judge_many, judge_each      by the nodes, the number of rows, the rows and their cells
 --     sound                         what is known of a well-formed table
 --     table_refused, table_early    a table is refused by a number that is neither 0 nor 9
 --     loaded_as                     what is said of the rows that were loaded is said of those that were lent
---     Held, few-rows, in_column, in_front, listed_is, front_rows, fronts_good, front_cells, front_last
+--     rows_few, rows_front          how many rows a good table has, and a front of just them
+--     Held, few_rows, in_column, in_front, listed_is, front_rows, fronts_good, front_cells, front_last
 --                                   columns that hold a well-formed table in their fronts, and what is known of them
 -- Assumes nothing.
 use mathlib.Core.Path.{◌≡◌, refl, ◌∙◌, ap, sym, subst}
@@ -20,17 +21,17 @@ use Rattle.table.specs.declared.Row.{Row}
 use Rattle.table.specs.declared.Refusal.{Refusal}
 use Rattle.table.specs.declared.Verdict.{Verdict}
 use Rattle.table.specs.declared.Verdict.TheVariants.{Good, Refused}
-use Rattle.table.specs.Table.{most-rows, most_cells, refuse, row_refusal, judge_rows, cells_in, after_rows, judge_all}
+use Rattle.table.specs.Table.{most_rows, most_cells, refuse, row_refusal, judge_rows, cells_in, after_rows, judge_all}
 use Rattle.table.specs.declared.Columns.{Columns}
 use Rattle.table.specs.Table.{judge, WellFormed, last_due}
 use Rattle.table.specs.Steps.{SameRows, columns, Columned, rows_of, listed}
-use Rattle.table.proofs.Rows.{length-listed, listed-columns, listed_fronts, fronts_same}
+use Rattle.table.proofs.Rows.{length-listed, listed_columns, listed_fronts, fronts_same}
 use Rattle.table.proofs.Judging.{never_good, all_good, judged_early, its_cells, its_dues}
 
 module _ (n : ℕ) (rows : List Row) where
-  pub judge-few : n < 2 → judge n rows ≡ Refused (refuse 1 0 0)
+  pub judge_few : n < 2 → judge n rows ≡ Refused (refuse 1 0 0)
   unfolding judge
-  judge-few h = rw (lt-ltb n 2 h)
+  judge_few h = rw (lt-ltb n 2 h)
 
   pub judge_wide : 32 < n → judge n rows ≡ Refused (refuse 1 0 0)
   unfolding judge
@@ -40,9 +41,9 @@ module _ (n : ℕ) (rows : List Row) where
   unfolding judge
   judge_many l m h = rw (le-ltb n 2 l, le-ltb 32 n m, lt-ltb 512 (length rows) h)
 
-  pub judge-each : 2 ≤ n → n ≤ 32 → length rows ≤ 512 → judge n rows ≡ judge_all n rows
+  pub judge_each : 2 ≤ n → n ≤ 32 → length rows ≤ 512 → judge n rows ≡ judge_all n rows
   unfolding judge
-  judge-each l m h = rw (le-ltb n 2 l, le-ltb 32 n m, le-ltb 512 (length rows) h)
+  judge_each l m h = rw (le-ltb n 2 l, le-ltb 32 n m, le-ltb 512 (length rows) h)
 
 -- What a well-formed table is known to be.
 pub record Sound (n : ℕ) (rows : List Row) : Type 0 where
@@ -103,7 +104,7 @@ all_refused n rows x e z = go (judge_rows n rows 0) refl e
 
 pub table_refused : (n : ℕ) (rows : List Row) (x : Refusal) → judge n rows ≡ Refused x → x.number ≡ 0 → ⊥
 unfolding judge
-table_refused n rows x e z = go (ltb n 2 || ltb 32 n) (ltb most-rows (length rows)) e
+table_refused n rows x e z = go (ltb n 2 || ltb 32 n) (ltb most_rows (length rows)) e
   where
     go : (a b : Bool)
         → cond a (Refused (refuse 1 0 0)) (cond b (Refused (refuse 2 0 0)) (judge_all n rows))
@@ -115,7 +116,7 @@ table_refused n rows x e z = go (ltb n 2 || ltb 32 n) (ltb most-rows (length row
 -- No table is refused as late before it is planned.
 pub table_early : (n : ℕ) (rows : List Row) (x : Refusal) → judge n rows ≡ Refused x → x.number ≡ 9 → ⊥
 unfolding judge
-table_early n rows x e z = go (ltb n 2 || ltb 32 n) (ltb most-rows (length rows)) e
+table_early n rows x e z = go (ltb n 2 || ltb 32 n) (ltb most_rows (length rows)) e
   where
     go : (a b : Bool) → cond a (Refused (refuse 1 0 0)) (cond b (Refused (refuse 2 0 0)) (judge_all n rows)) ≡ Refused x
         → ⊥
@@ -138,10 +139,10 @@ module _ (n : ℕ) (rows : List Row) (Said : List Row → Type 0)
     where
       go : (b : Bool)
           → cond b (Refused (refuse 1 0 0))
-          (cond (ltb most-rows (length given)) (Refused (refuse 2 0 0)) (judge_all n given))
+          (cond (ltb most_rows (length given)) (Refused (refuse 2 0 0)) (judge_all n given))
           ≡ Refused (refuse (cond b 1 2) 0 0)
       go true = refl
-      go false = rw (lt-ltb most-rows (length given) l)
+      go false = rw (lt-ltb most_rows (length given) l)
 
   pub loaded_as : Said loaded → Said rows
   loaded_as said = go (ltb 512 (length rows)) refl
@@ -151,26 +152,35 @@ module _ (n : ℕ) (rows : List Row) (Said : List Row → Type 0)
           let many : 512 < length rows = ltb-true 512 (length rows) e in
           let long = sym (length-listed (length rows) (columns rows)) in
           counts _ loaded rows (too_many loaded (subst (λ (k : ℕ). 512 < k) long many)) (too_many rows many) said
-      go false e = subst Said (listed-columns rows (ltb-false 512 (length rows) e)) said
+      go false e = subst Said (listed_columns rows (ltb-false 512 (length rows) e)) said
 
 -- Columns of 512 places that hold a well-formed table in their fronts.
 pub record Held (n count : ℕ) (c : Columns) : Type 0 where
   pub columned : Columned c
   pub good : judge n (listed count c) ≡ Good
 
+-- A table that was judged to be good has at most 512 rows, and a column of 512 places a front of just them.
+pub rows_few : (n count : ℕ) (c : Columns) (verdict : Verdict) → verdict ≡ judge n (listed count c) → verdict ≡ Good
+    → count ≤ 512
+rows_few n count c verdict told good =
+    omega (arith, (sound n (listed count c) (sym told ∙ good)).few, length-listed count c)
+
+pub rows_front : (count : ℕ) (column : List ℕ) → count ≤ 512 → length column ≡ 512 → count ≡ length (take count column)
+rows_front count column few long = sym (length-take-le count column (omega arith))
+
 module _ {n count : ℕ} {c : Columns} (held : Held n count c) where
   pub its_bounds : Sound n (listed count c)
   its_bounds = sound n (listed count c) held.good
 
-  pub few-rows : count ≤ 512
-  few-rows = omega (arith, its_bounds.few, length-listed count c)
+  pub few_rows : count ≤ 512
+  few_rows = rows_few n count c Good (sym held.good) refl
 
   -- Each column has room for the rows, and a front of just them.
   pub in_column : (column : List ℕ) → length column ≡ 512 → count ≤ length column
-  in_column column long = omega (arith, few-rows)
+  in_column column long = omega (arith, few_rows)
 
   pub in_front : (column : List ℕ) → length column ≡ 512 → count ≡ length (take count column)
-  in_front column long = sym (length-take-le count column (in_column column long))
+  in_front column long = rows_front count column few_rows long
 
   abbrev pub fronts : List Row
   fronts = rows_of (take count c.src) (take count c.dst) (take count c.len) (take count c.due)
@@ -179,7 +189,7 @@ module _ {n count : ℕ} {c : Columns} (held : Held n count c) where
   listed_is = listed_fronts count c (in_column c.src held.columned.src_all)
 
   pub front_rows : SameRows (take count c.src) (take count c.dst) (take count c.len) (take count c.due)
-  front_rows = fronts_same count c few-rows held.columned
+  front_rows = fronts_same count c few_rows held.columned
 
   pub fronts_good : judge_all n fronts ≡ Good
   fronts_good = rw listed_is at its_bounds.all

@@ -3,11 +3,11 @@ use Rattle.std.specs.Prelude.{ℕ, ◌≤◌, ◌<◌, ◌≡◌, List, map, ◌
 use Rattle.lists.specs.Lists.{build}
 use Rattle.table.specs.declared.Row.{Row}
 use Rattle.table.specs.declared.Columns.{Columns}
-use Rattle.table.specs.Table.{most-rows, destinations, lengths, dues}
+use Rattle.table.specs.Table.{most_rows, destinations, lengths, dues}
 
 -- Four columns hold the same rows, no more than a table may have.
 pub record SameRows (src dst len due : List ℕ) : Type 0 where
-  pub few : length src ≤ most-rows
+  pub few : length src ≤ most_rows
   pub dst_each : length dst ≡ length src
   pub len_each : length len ≡ length src
   pub due_each : length due ≡ length src
@@ -29,7 +29,7 @@ sources = map (λ (r : Row). r.src)
 
 -- A column of 512 places: the first 512 entries, and 0 behind them.
 unfoldable pub column : List ℕ → List ℕ
-column xs = take most-rows (xs ++ replicate most-rows 0)
+column xs = take most_rows (xs ++ replicate most_rows 0)
 
 -- The first 512 rows, by columns.
 unfoldable pub columns : List Row → Columns
@@ -52,10 +52,10 @@ by_columns src dst len due = record { src = src; dst = dst; len = len; due = due
 
 -- Each column has 512 places.
 pub record Columned (c : Columns) : Type 0 where
-  pub src_all : length c.src ≡ most-rows
-  pub dst_all : length c.dst ≡ most-rows
-  pub len_all : length c.len ≡ most-rows
-  pub due_all : length c.due ≡ most-rows
+  pub src_all : length c.src ≡ most_rows
+  pub dst_all : length c.dst ≡ most_rows
+  pub len_all : length c.len ≡ most_rows
+  pub due_all : length c.due ≡ most_rows
 
 -- The rows that a count and columns of 512 places stand for.
 unfoldable pub listed : ℕ → Columns → List Row

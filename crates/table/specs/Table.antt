@@ -8,16 +8,16 @@ use Rattle.table.specs.declared.Verdict.{Verdict}
 use Rattle.table.specs.declared.Verdict.TheVariants.{Good, Refused}
 
 -- The most rows that a table may have.
-abbrev pub most-rows : ℕ
-most-rows = 512
+abbrev pub most_rows : ℕ
+most_rows = 512
 
 -- The latest due slot that a row may have.
 abbrev pub latest_due : ℕ
 latest_due = 1024
 
 -- The most cells that one row may have.
-abbrev pub most-length : ℕ
-most-length = 64
+abbrev pub most_length : ℕ
+most_length = 64
 
 -- The most cells that all rows of a table may have together.
 abbrev pub most_cells : ℕ
@@ -41,7 +41,7 @@ unfoldable pub row_refusal : ℕ → Row → ℕ
 row_refusal n r =
     cond (leb n r.src) 3
     (cond (leb n r.dst) 4
-    (cond (eqb r.len 0 || ltb most-length r.len) 10
+    (cond (eqb r.len 0 || ltb most_length r.len) 10
     (cond (eqb r.due 0 || ltb latest_due r.due) 6 0)))
 
 -- The refusal of the first bad row, where `above` rows stand above the list.
@@ -71,7 +71,7 @@ judge_all n rows = after_rows (judge_rows n rows 0) (cells_in rows)
 unfoldable pub judge : ℕ → List Row → Verdict
 judge n rows =
     cond (ltb n 2 || ltb 32 n) (Refused (refuse 1 0 0))
-    (cond (ltb most-rows (length rows)) (Refused (refuse 2 0 0)) (judge_all n rows))
+    (cond (ltb most_rows (length rows)) (Refused (refuse 2 0 0)) (judge_all n rows))
 
 -- None of these refusals holds.
 abbrev pub WellFormed : ℕ → List Row → Type 0

@@ -8,7 +8,7 @@ use Rattle.table.specs.Table.{refuse}
 use Rattle.table.specs.declared.Row.{Row}
 use Rattle.text.specs.declared.Reading.TheVariants.{Read, Refused}
 use Rattle.text.specs.declared.Writing.TheVariants.{Written, Refused as NotWritten}
-use Rattle.text.specs.Text.{width, last_digits, numeral, line, row-keys, lines_text, row_text, rows_text, text_of}
+use Rattle.text.specs.Text.{width, last_digits, numeral, line, row_keys, lines_text, row_text, rows_text, text_of}
 use Rattle.text.specs.Text.{starts, digits_at, extended, item_value, item_good, item_rest, values_at, behind_lines}
 use Rattle.text.specs.Text.{wrong_line, rows_keys, row_at, rows_at, nodes_in, rows_in, body_of, reading_of_rows}
 use Rattle.text.specs.Text.{reading_of_body, reading_of, rows_read, writing_of, area_after}
@@ -31,43 +31,43 @@ case_b_text =
     100 ∷ 117 ∷ 101 ∷ 61 ∷ 51 ∷ 10 ∷ []
 
 pub case_b_written : text_of 4 case_b ≡ case_b_text
-unfolding width last_digits numeral line row-keys lines_text row_text rows_text text_of
+unfolding width last_digits numeral line row_keys lines_text row_text rows_text text_of
 case_b_written = refl
 
 pub case_b_read : reading_of case_b_text 2 ≡ Read (record { nodes = 4; rows = 2 })
-unfolding width last_digits numeral line starts digits_at extended item_value item_good item_rest row-keys values_at
+unfolding width last_digits numeral line starts digits_at extended item_value item_good item_rest row_keys values_at
     behind_lines wrong_line rows_keys row_at rows_at nodes_in rows_in body_of reading_of_rows reading_of_body reading_of
 case_b_read = refl
 
 pub case_b_rows : rows_read case_b_text 2 ≡ case_b
-unfolding width last_digits numeral line starts digits_at extended item_value item_good item_rest row-keys values_at
+unfolding width last_digits numeral line starts digits_at extended item_value item_good item_rest row_keys values_at
     behind_lines wrong_line rows_keys row_at rows_at nodes_in rows_in body_of reading_of_rows reading_of_body reading_of rows_read
 case_b_rows = refl
 
 -- Its text has 63 bytes: an area of 62 is too short, one of 63 will do, and of one of 65 two bytes are left alone.
 pub case_b_too_long : writing_of 4 case_b 62 ≡ NotWritten (refuse 22 0 0)
-unfolding width last_digits numeral line row-keys lines_text row_text rows_text text_of writing_of
+unfolding width last_digits numeral line row_keys lines_text row_text rows_text text_of writing_of
 case_b_too_long = refl
 
 pub case_b_fits : writing_of 4 case_b 63 ≡ Written 63
-unfolding width last_digits numeral line row-keys lines_text row_text rows_text text_of writing_of
+unfolding width last_digits numeral line row_keys lines_text row_text rows_text text_of writing_of
 case_b_fits = refl
 
 pub case_b_in_area : area_after 4 case_b (replicate {A = ℕ} 65 7) ≡ case_b_text ++ (7 ∷ 7 ∷ [])
-unfolding width last_digits numeral line row-keys lines_text row_text rows_text text_of area_after
+unfolding width last_digits numeral line row_keys lines_text row_text rows_text text_of area_after
 case_b_in_area = refl
 
 -- A text of no rows has no lengths to miss.
 pub no_rows_read : reading_of (110 ∷ 111 ∷ 100 ∷ 101 ∷ 115 ∷ 61 ∷ 52 ∷ 10 ∷ 114 ∷ 111 ∷ 119 ∷ 115 ∷ 61 ∷ 48 ∷ 10 ∷ []) 2
     ≡ Read (record { nodes = 4; rows = 0 })
-unfolding width last_digits numeral line starts digits_at extended item_value item_good item_rest row-keys values_at
+unfolding width last_digits numeral line starts digits_at extended item_value item_good item_rest row_keys values_at
     behind_lines wrong_line rows_keys row_at rows_at nodes_in rows_in body_of reading_of_rows reading_of_body reading_of
 no_rows_read = refl
 
 -- A table of 513 rows is not written, however long the area is.
 pub too_many_rows : writing_of 4 (replicate {A = Row} 513 (record { src = 0; dst = 1; len = 1; due = 2 })) 30000
     ≡ NotWritten (refuse 2 0 0)
-unfolding width last_digits numeral line row-keys lines_text row_text rows_text text_of writing_of
+unfolding width last_digits numeral line row_keys lines_text row_text rows_text text_of writing_of
 too_many_rows = refl
 
 -- The head of a text of one row, right lines of that row, and a due slot of six digits.
@@ -83,8 +83,8 @@ dst_line = 100 ∷ 115 ∷ 116 ∷ 61 ∷ 49 ∷ 10 ∷ []
 abbrev len_line : List ℕ
 len_line = 108 ∷ 101 ∷ 110 ∷ 61 ∷ 49 ∷ 10 ∷ []
 
-abbrev due-line : List ℕ
-due-line = 100 ∷ 117 ∷ 101 ∷ 61 ∷ 50 ∷ 10 ∷ []
+abbrev due_line : List ℕ
+due_line = 100 ∷ 117 ∷ 101 ∷ 61 ∷ 50 ∷ 10 ∷ []
 
 abbrev six_digits : List ℕ
 six_digits = 100 ∷ 117 ∷ 101 ∷ 61 ∷ 49 ∷ 50 ∷ 51 ∷ 52 ∷ 53 ∷ 54 ∷ 10 ∷ []
@@ -182,7 +182,7 @@ wrong_texts =
     -- a row without its length, as rows were written before they had one
     record {
       text =
-          one_row ++ (src_line ++ (dst_line ++ due-line));
+          one_row ++ (src_line ++ (dst_line ++ due_line));
       number = 20;
       place = 5;
     } ∷
@@ -203,21 +203,21 @@ wrong_texts =
     -- two lines in the wrong order
     record {
       text =
-          one_row ++ (src_line ++ (due-line ++ (len_line ++ dst_line)));
+          one_row ++ (src_line ++ (due_line ++ (len_line ++ dst_line)));
       number = 20;
       place = 4;
     } ∷
     -- no number
     record {
       text =
-          one_row ++ ((115 ∷ 114 ∷ 99 ∷ 61 ∷ 120 ∷ 10 ∷ []) ++ (dst_line ++ (len_line ++ due-line)));
+          one_row ++ ((115 ∷ 114 ∷ 99 ∷ 61 ∷ 120 ∷ 10 ∷ []) ++ (dst_line ++ (len_line ++ due_line)));
       number = 20;
       place = 3;
     } ∷
     -- one byte behind the last line
     record {
       text =
-          one_row ++ (src_line ++ (dst_line ++ (len_line ++ (due-line ++ (10 ∷ [])))));
+          one_row ++ (src_line ++ (dst_line ++ (len_line ++ (due_line ++ (10 ∷ [])))));
       number = 20;
       place = 7;
     } ∷
@@ -239,6 +239,6 @@ wrong_texts =
 
 pub wrong_texts_refused : map (λ (w : Wrong). reading_of w.text 2) wrong_texts ≡ map
     (λ (w : Wrong). Refused (refuse w.number w.place 0)) wrong_texts
-unfolding width last_digits numeral line starts digits_at extended item_value item_good item_rest row-keys values_at
+unfolding width last_digits numeral line starts digits_at extended item_value item_good item_rest row_keys values_at
     behind_lines wrong_line rows_keys row_at rows_at nodes_in rows_in body_of reading_of_rows reading_of_body reading_of
 wrong_texts_refused = refl

@@ -1,7 +1,7 @@
 -- Bytes that stand at the front of others.
 --     starts_self, starts_true      they stand there exactly if the others are they and a rest
 --     starts_join                   two pieces, one behind the other
---     starts_next, starts_differ, starts_end, starts-short   byte by byte, as `key_at` looks
+--     starts_next, starts_differ, starts_end, starts_short   byte by byte, as `key_at` looks
 -- Assumes nothing.
 use mathlib.Core.Path.{◌≡◌, refl, sym}
 use mathlib.Core.Bool.{Bool, true, false, ◌&&◌, and-false}
@@ -45,11 +45,11 @@ starts_join (x ∷ xs) ys (b ∷ bs) = go (eqb x b) (starts_join xs ys bs)
     go true e = e
     go false e = refl
 
-pub starts-short : (xs bytes : List ℕ) → length bytes < length xs → starts xs bytes ≡ false
+pub starts_short : (xs bytes : List ℕ) → length bytes < length xs → starts xs bytes ≡ false
 unfolding starts
-starts-short [] bytes h = absurd (not-suc-le-zero h)
-starts-short (x ∷ xs) [] h = refl
-starts-short (x ∷ xs) (b ∷ bs) h = rw (starts-short xs bs (le_of_suc-le-suc h), and-false)
+starts_short [] bytes h = absurd (not-suc-le-zero h)
+starts_short (x ∷ xs) [] h = refl
+starts_short (x ∷ xs) (b ∷ bs) h = rw (starts_short xs bs (le_of_suc-le-suc h), and-false)
 
 pub starts_end : (xs bytes : List ℕ) (i : ℕ) → length xs ≤ i → starts (drop i xs) bytes ≡ true
 unfolding starts
@@ -80,7 +80,7 @@ module _ (xs bytes : List ℕ) (at i : ℕ) (inside : i < length xs) (there : at
 
 -- the key is longer than what is left of the text
 pub starts_past : (xs bytes : List ℕ) (at : ℕ) → length bytes - at < length xs → starts xs (drop at bytes) ≡ false
-starts_past xs bytes at h = starts-short xs (drop at bytes) (rw (length-drop at bytes) h)
+starts_past xs bytes at h = starts_short xs (drop at bytes) (rw (length-drop at bytes) h)
 
 pub starts_from : (xs bytes : List ℕ) (at : ℕ) → starts xs (drop at bytes) ≡ starts (drop 0 xs) (drop (at + 0) bytes)
 starts_from xs bytes at = let none : at + 0 ≡ at = omega arith in rw none

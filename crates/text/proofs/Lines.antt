@@ -1,6 +1,6 @@
 -- A number behind a key, up to its mark: where it stands exactly so. A line is the case of a line feed.
 --     item-length, line-length     how long it is
---     item-found, line-found       a text that begins with an item is seen to, with its number and the rest
+--     item_found, line_found       a text that begins with an item is seen to, with its number and the rest
 --     item_stands, line_stands     an item that is seen stands there: the text is that item and the rest
 --     item_iff, line_iff           so an item is good exactly if the text is an item of a value up to 65,535 and a rest
 -- Assumes nothing.
@@ -17,7 +17,7 @@ use lib.Seq.{drop-append_seam}
 use Rattle.lists.proofs.Truth.{both_hold}
 use Rattle.text.specs.Text.{line_feed, greatest_value, width, numeral, item, line, starts, is_digit, item_value}
 use Rattle.text.specs.Text.{item_good, item_rest, line_value, line_good, line_rest}
-use Rattle.text.proofs.Numeral.{numeral-length, numeral_digits, numeral_value, width-most, digits_read}
+use Rattle.text.proofs.Numeral.{numeral-length, numeral_digits, numeral_value, width_most, digits_read}
 use Rattle.text.proofs.Front.{starts_self, starts_true}
 
 -- an item has its key, its digits and its mark
@@ -45,7 +45,7 @@ module _ (key : List ℕ) (v mark : ℕ) (rest : List ℕ) (no_digit : is_digit 
       rw (
         behind key v mark rest,
         digits_read 5 (numeral v) mark rest no_digit (numeral_digits v)
-            (rw (numeral-length v) (width-most v)),
+            (rw (numeral-length v) (width_most v)),
       )
       (numeral_value v (omega arith))
 
@@ -57,14 +57,14 @@ module _ (key : List ℕ) (v mark : ℕ) (rest : List ℕ) (no_digit : is_digit 
   unfolding item_rest
   found_rest = rw found_value (drop-append_seam (item key v mark) rest)
 
-  pub item-found : (item_good key mark here ≡ true) × (item_value key here ≡ v) × (item_rest key mark here ≡ rest)
-  item-found = (found_good, found_value, found_rest)
+  pub item_found : (item_good key mark here ≡ true) × (item_value key here ≡ v) × (item_rest key mark here ≡ rest)
+  item_found = (found_good, found_value, found_rest)
 
-pub line-found : (key : List ℕ) (v : ℕ) (rest : List ℕ) → v ≤ greatest_value
+pub line_found : (key : List ℕ) (v : ℕ) (rest : List ℕ) → v ≤ greatest_value
     → (line_good key (line key v ++ rest) ≡ true) × (line_value key (line key v ++ rest) ≡ v)
     × (line_rest key (line key v ++ rest) ≡ rest)
 unfolding line
-line-found key v rest = item-found key v line_feed rest refl
+line_found key v rest = item_found key v line_feed rest refl
 
 pub item_stands : (key : List ℕ) (mark : ℕ) (text : List ℕ) → item_good key mark text ≡ true
     → (item_value key text ≤ greatest_value) × (text ≡ item key (item_value key text) mark ++ item_rest key mark text)

@@ -1,6 +1,6 @@
 -- Digits and numerals.
 --     Digits                        every byte of a list is a digit
---     numeral-length, width-most    a numeral has five digits at most
+--     numeral-length, width_most    a numeral has five digits at most
 --     numeral_digits                a numeral is digits only, so no line feed stands in it (no_line_feed)
 --     numeral_value                 a numeral says the number that it is the numeral of
 --     numeral_again                 digits that are as many as their number has are its numeral
@@ -28,11 +28,11 @@ digits_join : (xs ys : List ℕ) → Digits xs → Digits ys → Digits (xs ++ y
 digits_join [] ys p q = q
 digits_join (x ∷ xs) ys p q = (p.0, p.1, digits_join xs ys p.2 q)
 
-pub last-length : (k v : ℕ) → length (last_digits k v) ≡ k
+pub last_length : (k v : ℕ) → length (last_digits k v) ≡ k
 unfolding last_digits
-last-length zero v = refl
-last-length (suc k) v =
-    length-append (last_digits k (v / 10)) ((48 + v % 10) ∷ []) ∙ omega (arith, last-length k (v / 10))
+last_length zero v = refl
+last_length (suc k) v =
+    length-append (last_digits k (v / 10)) ((48 + v % 10) ∷ []) ∙ omega (arith, last_length k (v / 10))
 
 last_digits_lem : (k v : ℕ) → Digits (last_digits k v)
 unfolding last_digits
@@ -66,9 +66,9 @@ last_again (d ∷ ds) j v n e p =
     let of : 48 + (v * 10 + (d - 48)) % 10 ≡ d = omega arith in
     last_again ds (suc j) (v * 10 + (d - 48)) n (omega arith) p.2 ∙ rw (at, of, append_snoc)
 
-pub width-most : (v : ℕ) → width v ≤ 5
+pub width_most : (v : ℕ) → width v ≤ 5
 unfolding width
-width-most v = go (ltb v 10) (ltb v 100) (ltb v 1000) (ltb v 10000)
+width_most v = go (ltb v 10) (ltb v 100) (ltb v 1000) (ltb v 10000)
   where
     go : (a b c d : Bool) → cond a 1 (cond b 2 (cond c 3 (cond d 4 5))) ≤ 5
     go true b c d = omega arith
@@ -91,7 +91,7 @@ width_few v h = go (ltb v 10) (ltb v 100) (ltb v 1000) (ltb v 10000) refl refl r
 
 pub numeral-length : (v : ℕ) → length (numeral v) ≡ width v
 unfolding numeral
-numeral-length v = last-length (width v) v
+numeral-length v = last_length (width v) v
 
 pub numeral_digits : (v : ℕ) → Digits (numeral v)
 unfolding numeral

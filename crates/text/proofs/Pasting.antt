@@ -1,9 +1,9 @@
 -- Bytes written into an area, and the digits of a numeral.
---     tenth-more, tenth_done, numeral_byte     the digits of a number one by one
+--     tenth_more, tenth_done, numeral_byte     the digits of a number one by one
 --     put_more, put_all, byte_placed           bytes written one by one, and one byte alone
---     pasted-none, pasted_length, pasted-more  nothing written, and a piece behind another
+--     pasted_none, pasted_length, pasted_more  nothing written, and a piece behind another
 --     two_fits, three_fits, three_placed, three_long   three pieces written one behind the other
---     key_fits, numeral-fits, mark_fits, item-long, item_placed   the three pieces of a number behind a key
+--     key_fits, numeral_fits, mark_fits, item_long, item_placed   the three pieces of a number behind a key
 -- Assumes nothing.
 use mathlib.Core.Path.{◌≡◌, refl, ◌∙◌, ap, sym}
 use mathlib.Core.List.{List, [], ◌∷◌, ◌++◌, append_assoc, append-nil}
@@ -18,12 +18,12 @@ use lib.ListN.{length, get_or, take, drop, set, length-append, length-drop, take
 use lib.Seq.{paste, paste-zero, paste-suc, take-length, take_at, drop_at, drop-drop, length-take-le, get_or_at}
 use Rattle.text.specs.Text.{width, last_digits, numeral, item}
 use Rattle.text.specs.Steps.{tenth, pasted}
-use Rattle.text.proofs.Numeral.{last-length}
+use Rattle.text.proofs.Numeral.{last_length}
 
-pub tenth-more : (place i v rest : ℕ) → i < place → tenth place v ≡ tenth (place - i) rest
+pub tenth_more : (place i v rest : ℕ) → i < place → tenth place v ≡ tenth (place - i) rest
     → tenth place v ≡ tenth (place - (i + 1)) (rest / 10)
 unfolding tenth
-tenth-more place i v rest h e = let left : place - i ≡ suc (place - (i + 1)) = omega arith in e ∙ rw left
+tenth_more place i v rest h e = let left : place - i ≡ suc (place - (i + 1)) = omega arith in e ∙ rw left
 
 pub tenth_done : (place i v rest : ℕ) → place ≤ i → tenth place v ≡ tenth (place - i) rest → tenth place v ≡ rest
 unfolding tenth
@@ -40,12 +40,12 @@ last_at (suc k) v i h = go (ltb i k) refl (last_at k (v / 10) i)
     go true e rec =
         let less : i < k = ltb-true i k e in
         let shift : suc k - 1 - i ≡ suc (k - 1 - i) = omega arith in
-        let short : i < length (last_digits k (v / 10)) = omega (arith, last-length k (v / 10)) in
+        let short : i < length (last_digits k (v / 10)) = omega (arith, last_length k (v / 10)) in
         get_or-append (last_digits k (v / 10)) ((48 + v % 10) ∷ []) 0 i short ∙ rec less ∙ rw shift
     go false e rec =
         let last : k ≡ i = omega (arith, ltb-false i k e) in
         let none : suc k - 1 - i ≡ 0 = omega arith in
-        rw none (get_or_at (last_digits k (v / 10)) (48 + v % 10) [] 0 i (last-length k (v / 10) ∙ last))
+        rw none (get_or_at (last_digits k (v / 10)) (48 + v % 10) [] 0 i (last_length k (v / 10) ∙ last))
 
 -- a byte of a numeral, where w is its length
 pub numeral_byte : (v j w : ℕ) → w ≡ width v → j < w → 48 + tenth (w - 1 - j) v % 10 ≡ get_or (numeral v) j 0
@@ -67,9 +67,9 @@ module _ (area : List ℕ) (at : ℕ) where
         length-append (take at area ++ xs) (drop (at + length xs) area)
         ∙ omega (arith, head_length, length-drop (at + length xs) area)
 
-    pub pasted-more : (ys : List ℕ) → pasted (pasted area at xs) (at + length xs) ys ≡ pasted area at (xs ++ ys)
+    pub pasted_more : (ys : List ℕ) → pasted (pasted area at xs) (at + length xs) ys ≡ pasted area at (xs ++ ys)
     unfolding pasted
-    pasted-more ys =
+    pasted_more ys =
         let front : take (at + length xs) (pasted area at xs) ≡ take at area ++ xs =
         take_at (take at area ++ xs) (drop (at + length xs) area) (at + length xs) head_length in
         let back : drop (at + length xs) (pasted area at xs) ≡ drop (at + length xs) area =
@@ -97,9 +97,9 @@ byte_placed area at b h =
     put_all area at (b ∷ []) (omega arith) 1 (set area at b) refl
     (rw here at (put_more area at (b ∷ []) (omega arith) 0 area b (omega arith) refl (paste-zero area at (b ∷ []))))
 
-pub pasted-none : (area : List ℕ) (at : ℕ) → area ≡ pasted area at []
+pub pasted_none : (area : List ℕ) (at : ℕ) → area ≡ pasted area at []
 unfolding pasted
-pasted-none area at =
+pasted_none area at =
     let none : at + 0 ≡ at = omega arith in
     sym (rw (none, append-nil) (take-append-drop at area))
 
@@ -122,12 +122,12 @@ module _ (area₀ : List ℕ) (at : ℕ) (a b d : List ℕ) (fits : at + (length
       three_fits = omega (arith, long₂)
 
       joined : area₂ ≡ pasted area₀ at (a ++ b)
-      joined = so₂ ∙ rw (so₁, place₁) (pasted-more area₀ at a one_fits b)
+      joined = so₂ ∙ rw (so₁, place₁) (pasted_more area₀ at a one_fits b)
 
       pub three_placed : (area₃ : List ℕ) → area₃ ≡ pasted area₂ p₂ d → area₃ ≡ pasted area₀ at (a ++ (b ++ d))
       three_placed area₃ so₃ =
           let place : p₂ ≡ at + length (a ++ b) = omega (arith, length-append a b) in
-          so₃ ∙ rw (joined, place) (pasted-more area₀ at (a ++ b) (omega (arith, length-append a b)) d)
+          so₃ ∙ rw (joined, place) (pasted_more area₀ at (a ++ b) (omega (arith, length-append a b)) d)
           ∙ ap (pasted area₀ at) (append_assoc a b d)
 
       pub three_long : (area₃ : List ℕ) → area₃ ≡ pasted area₂ p₂ d → length area₃ ≡ length area₀
@@ -146,8 +146,8 @@ module _ (area₀ : List ℕ) (at : ℕ) (key : List ℕ) (v mark : ℕ)
   key_fits = omega (arith, pieces_fit)
 
   module _ (p₁ : ℕ) (area₁ : List ℕ) (one : (p₁ ≡ at + length key) × (area₁ ≡ pasted area₀ at key)) where
-    pub numeral-fits : p₁ + length (numeral v) ≤ length area₁
-    numeral-fits = two_fits area₀ at key (numeral v) (mark ∷ []) pieces_fit p₁ area₁ one.0 one.1
+    pub numeral_fits : p₁ + length (numeral v) ≤ length area₁
+    numeral_fits = two_fits area₀ at key (numeral v) (mark ∷ []) pieces_fit p₁ area₁ one.0 one.1
 
     module _ (p₂ : ℕ) (area₂ : List ℕ)
         (two : (p₂ ≡ p₁ + length (numeral v)) × (area₂ ≡ pasted area₁ p₁ (numeral v))) where
@@ -159,8 +159,8 @@ module _ (area₀ : List ℕ) (at : ℕ) (key : List ℕ) (v mark : ℕ)
                 two.0 two.1,
           )
 
-      pub item-long : length (set area₂ p₂ mark) ≡ length area₀
-      item-long =
+      pub item_long : length (set area₂ p₂ mark) ≡ length area₀
+      item_long =
           three_long area₀ at key (numeral v) (mark ∷ []) pieces_fit p₁ area₁ one.0 one.1 p₂ area₂ two.0
           two.1 (set area₂ p₂ mark) (byte_placed area₂ p₂ mark mark_fits)
 

@@ -1,7 +1,7 @@
 -- What follows of every outcome that fits the promise of `read` or of `write`.
 --     one_reading, one_writing     two outcomes that fit a promise are equal
 --     accepted_fills               an accepted reading fills just its rows, and leaves the rest
---     refused_leaves-rows          a refused reading leaves the list as it was
+--     refused_leaves_rows          a refused reading leaves the list as it was
 --     refused_leaves_area          a refused writing leaves the area as it was
 --     written_with_room            at most 512 rows whose text the area can take are written
 --     written_is_read              what `write` wrote, `read` reads back as the same nodes and rows
@@ -21,7 +21,7 @@ use lib.ListN.{length, take, drop, length-append, length-drop}
 use lib.Seq.{take_at, drop_at}
 use Rattle.table.specs.declared.Row.{Row}
 use Rattle.table.specs.declared.Refusal.{Refusal}
-use Rattle.table.specs.Table.{refuse, most-rows}
+use Rattle.table.specs.Table.{refuse, most_rows}
 use Rattle.text.specs.declared.Header.{Header}
 use Rattle.text.specs.declared.Reading.{Reading}
 use Rattle.text.specs.declared.Reading.TheVariants.{Read, Refused}
@@ -29,7 +29,7 @@ use Rattle.text.specs.declared.Writing.{Writing}
 use Rattle.text.specs.declared.Writing.TheVariants.{Written, Refused as NotWritten}
 use Rattle.text.specs.Text.{greatest_value, text_of, RowsFit, body_of, rows_at, reading_of, rows_read, filled}
 use Rattle.text.specs.Text.{writing_of, area_after, TextTaken, TextPut}
-use Rattle.text.proofs.RoundTrip.{read_back, write_back, read_fits, rows-counted, written_again, IsText}
+use Rattle.text.proofs.RoundTrip.{read_back, write_back, read_fits, rows_counted, written_again, IsText}
 use Rattle.text.proofs.RoundTrip.{read_iff_text}
 
 -- Two outcomes of `read` that fit its promise are equal: the answer, and every lent row.
@@ -48,7 +48,7 @@ pub accepted_fills : {text : List ℕ} {rows rows' : List Row} {h : Header} → 
     × (length rows' ≡ length rows)
 accepted_fills {text} {rows} {rows'} {h} t =
     let found = rows_read text (length rows) in
-    let counted : h.rows ≡ length found = rows-counted text (length rows) h (sym t.answers) in
+    let counted : h.rows ≡ length found = rows_counted text (length rows) h (sym t.answers) in
     let room : length found ≤ length rows = (read_fits text (length rows) h (sym t.answers)).room in (
       ap (take h.rows) t.fills ∙ take_at found (drop (length found) rows) h.rows (sym counted),
       ap (drop h.rows) t.fills ∙ drop_at found (drop (length found) rows) h.rows (sym counted)
@@ -67,9 +67,9 @@ unfolding rows_read rows_at
 none_read text lent x e = ap (λ (r : Reading). rows_at (filled r) (body_of text)) (sym e)
 
 -- A refused reading leaves the list as it was.
-pub refused_leaves-rows : {text : List ℕ} {rows rows' : List Row} {x : Refusal} → TextTaken text rows (Refused x) rows'
+pub refused_leaves_rows : {text : List ℕ} {rows rows' : List Row} {x : Refusal} → TextTaken text rows (Refused x) rows'
     → rows' ≡ rows
-refused_leaves-rows {text} {rows} {rows'} {x} t =
+refused_leaves_rows {text} {rows} {rows'} {x} t =
     t.fills ∙ ap (λ (found : List Row). found ++ drop (length found) rows)
     (none_read text (length rows) x t.answers)
 
@@ -79,21 +79,21 @@ not_both x k e = let z : ◌≡◌ {A = ℕ} 0 1 = cc in omega arith
 
 -- What a written text says of its table.
 record Wrote (n : ℕ) (rows : List Row) (room k : ℕ) : Type 0 where
-  few : length rows ≤ most-rows
+  few : length rows ≤ most_rows
   enough : length (text_of n rows) ≤ room
   long : k ≡ length (text_of n rows)
 
 wrote : (n : ℕ) (rows : List Row) (room k : ℕ) → writing_of n rows room ≡ Written k → Wrote n rows room k
 unfolding writing_of
-wrote n rows room k e = go (ltb most-rows (length rows)) (ltb room (length (text_of n rows))) refl refl e
+wrote n rows room k e = go (ltb most_rows (length rows)) (ltb room (length (text_of n rows))) refl refl e
   where
-    go : (a b : Bool) → ltb most-rows (length rows) ≡ a → ltb room (length (text_of n rows)) ≡ b
+    go : (a b : Bool) → ltb most_rows (length rows) ≡ a → ltb room (length (text_of n rows)) ≡ b
         → cond a (NotWritten (refuse 2 0 0))
         (cond b (NotWritten (refuse 22 0 0)) (Written (length (text_of n rows)))) ≡ Written k → Wrote n rows room k
     go true b p q e = absurd (not_both _ k e)
     go false true p q e = absurd (not_both _ k e)
     go false false p q e = record {
-      few = ltb-false most-rows (length rows) p;
+      few = ltb-false most_rows (length rows) p;
       enough =
           ltb-false room (length (text_of n rows)) q;
       long = cc;
@@ -104,7 +104,7 @@ pub refused_leaves_area : {n : ℕ} {rows : List Row} {area area' : List ℕ} {x
     → TextPut n rows area (NotWritten x) area' → area' ≡ area
 unfolding writing_of area_after
 refused_leaves_area {n} {rows} {area} {area'} {x} p =
-    p.fills ∙ go (ltb most-rows (length rows)) (ltb (length area) (length (text_of n rows))) p.answers
+    p.fills ∙ go (ltb most_rows (length rows)) (ltb (length area) (length (text_of n rows))) p.answers
   where
     after : List ℕ
     after = text_of n rows ++ drop (length (text_of n rows)) area
@@ -116,19 +116,19 @@ refused_leaves_area {n} {rows} {area} {area'} {x} p =
     go false true e = refl
     go false false e = absurd (not_both x (length (text_of n rows)) e)
 
-module _ (n : ℕ) (rows : List Row) (area : List ℕ) (few : length rows ≤ most-rows)
+module _ (n : ℕ) (rows : List Row) (area : List ℕ) (few : length rows ≤ most_rows)
     (enough : length (text_of n rows) ≤ length area) where
   writes : writing_of n rows (length area) ≡ Written (length (text_of n rows))
   unfolding writing_of
-  writes = rw (le-ltb most-rows (length rows) few, le-ltb (length area) (length (text_of n rows)) enough)
+  writes = rw (le-ltb most_rows (length rows) few, le-ltb (length area) (length (text_of n rows)) enough)
 
   leaves : area_after n rows area ≡ text_of n rows ++ drop (length (text_of n rows)) area
   unfolding area_after
-  leaves = rw (le-ltb most-rows (length rows) few, le-ltb (length area) (length (text_of n rows)) enough)
+  leaves = rw (le-ltb most_rows (length rows) few, le-ltb (length area) (length (text_of n rows)) enough)
 
 -- At most 512 rows whose text the area can take are written: the answer is the text's length, and the area begins with
 -- it.
-pub written_with_room : {n : ℕ} {rows : List Row} {area area' : List ℕ} {r : Writing} → length rows ≤ most-rows
+pub written_with_room : {n : ℕ} {rows : List Row} {area area' : List ℕ} {r : Writing} → length rows ≤ most_rows
     → length (text_of n rows) ≤ length area → TextPut n rows area r area'
     → (r ≡ Written (length (text_of n rows))) × (area' ≡ text_of n rows ++ drop (length (text_of n rows)) area)
 written_with_room {n} {rows} {area} few enough p =

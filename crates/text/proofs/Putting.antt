@@ -8,7 +8,7 @@ use Prim.Native.Nat.{ℕ, ◌+◌, ◌≤◌}
 use native.Mathlib.Omega.{arith}
 use lib.ListN.{length, length-append}
 use Rattle.text.specs.Steps.{pasted, Put, Room}
-use Rattle.text.proofs.Pasting.{pasted-none, pasted_length, pasted-more}
+use Rattle.text.proofs.Pasting.{pasted_none, pasted_length, pasted_more}
 
 -- Of the bytes `whole`, those before `rest` stand at their place in the area.
 pub record Putting (area₀ : List ℕ) (from : ℕ) (whole area : List ℕ) (at : ℕ) (rest : List ℕ) : Type 0 where
@@ -21,7 +21,7 @@ pub record Putting (area₀ : List ℕ) (from : ℕ) (whole area : List ℕ) (at
 pub begun : (area₀ : List ℕ) (from : ℕ) (whole rest : List ℕ) → Room area₀ from whole → whole ≡ rest
     → Putting area₀ from whole area₀ from rest
 begun area₀ from whole rest room e =
-    record { front = []; room = room; parts = sym e; place = omega arith; so = pasted-none area₀ from }
+    record { front = []; room = room; parts = sym e; place = omega arith; so = pasted_none area₀ from }
 
 module _ {area₀ : List ℕ} {from : ℕ} {whole area : List ℕ} {at : ℕ} {rest : List ℕ}
     (k : Putting area₀ from whole area at rest) where
@@ -45,7 +45,7 @@ module _ {area₀ : List ℕ} {from : ℕ} {whole area : List ℕ} {at : ℕ} {r
           room = k.room;
           parts = append_assoc k.front piece more ∙ ap (λ (l : List ℕ). k.front ++ l) (sym e) ∙ k.parts;
           place = omega (arith, p.place, k.place, length-append k.front piece);
-          so = p.so ∙ rw (k.so, k.place) (pasted-more area₀ from k.front front_fits piece);
+          so = p.so ∙ rw (k.so, k.place) (pasted_more area₀ from k.front front_fits piece);
         }
 
 -- what the writer of one line or item gives

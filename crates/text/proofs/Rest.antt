@@ -15,13 +15,13 @@ use borrow.Author.Tests.{ltb-false, ne_eqb}
 use lib.Dec.{eqb, ltb}
 use lib.ListN.{length, drop, length-append, length-drop}
 use lib.Seq.{drop-append-le}
-use Rattle.table.specs.Table.{most-rows}
+use Rattle.table.specs.Table.{most_rows}
 use Rattle.text.specs.declared.Reading.{Reading}
 use Rattle.text.specs.declared.Reading.TheVariants.{Read, Refused}
-use Rattle.text.specs.Text.{line_feed, nodes_key, rows_key, row-keys, item, starts, is_digit, digits_at, item_value}
+use Rattle.text.specs.Text.{line_feed, nodes_key, rows_key, row_keys, item, starts, is_digit, digits_at, item_value}
 use Rattle.text.specs.Text.{item_good, item_rest, line_rest, wrong_line, rows_keys, nodes_in, rows_in, body_of}
 use Rattle.text.specs.Text.{reading_of_rows, reading_of_body, reading_of, rows_read}
-use Rattle.text.proofs.Lengths.{item-most, bytes_of, row_bytes}
+use Rattle.text.proofs.Lengths.{item_most, bytes_of, row_bytes}
 use Rattle.text.proofs.FirstWrong.{keys_of}
 use Rattle.text.proofs.RoundTrip.{write_back, read_fits, longest_text}
 use Rattle.text.proofs.Promises.{none_read}
@@ -49,7 +49,7 @@ module _ (key : List ℕ) (mark : ℕ) (text more : List ℕ) (long : length key
       rw (behind, digits_rest 5 (drop (length key) text) more (omega (arith, length-drop (length key) text)))
 
   here_fits : length (item key (item_value key text) mark) ≤ length text
-  here_fits = omega (arith, item-most key (item_value key text) mark)
+  here_fits = omega (arith, item_most key (item_value key text) mark)
 
   pub good_rest : item_good key mark (text ++ more) ≡ item_good key mark text
   unfolding item_good
@@ -64,7 +64,7 @@ rest_long : (key : List ℕ) (mark : ℕ) (text : List ℕ) → length text ≤ 
 unfolding item_rest
 rest_long key mark text =
     let here = item key (item_value key text) mark in
-    omega (arith, item-most key (item_value key text) mark, length-drop (length here) text)
+    omega (arith, item_most key (item_value key text) mark, length-drop (length here) text)
 
 -- The lines of some keys, where a byte more than theirs is there.
 wrong_rest : (keys : List (List ℕ)) (text more : List ℕ) (l : ℕ) → bytes_of keys < length text
@@ -85,17 +85,17 @@ bytes_join [] ys = omega arith
 bytes_join (x ∷ xs) ys = omega (arith, bytes_join xs ys)
 
 rows_bytes : (n : ℕ) → bytes_of (rows_keys n) ≡ row_bytes * n
-unfolding rows_keys bytes_of row-keys
+unfolding rows_keys bytes_of row_keys
 rows_bytes zero = refl
-rows_bytes (suc n) = bytes_join row-keys (rows_keys n) ∙ omega (arith, rows_bytes n)
+rows_bytes (suc n) = bytes_join row_keys (rows_keys n) ∙ omega (arith, rows_bytes n)
 
 -- More bytes than the lines of a text of at most 512 rows can take.
 unfoldable pub enough : ℕ
-enough = suc (bytes_of (keys_of most-rows))
+enough = suc (bytes_of (keys_of most_rows))
 
 pub enough_is : enough ≡ 20504
 unfolding enough bytes_of
-enough_is = omega (arith, rows_bytes most-rows)
+enough_is = omega (arith, rows_bytes most_rows)
 
 module _ (text more : List ℕ) (lent : ℕ) (long : enough ≤ length text) where
   abbrev second : List ℕ
@@ -112,12 +112,12 @@ module _ (text more : List ℕ) (lent : ℕ) (long : enough ≤ length text) whe
 
   rows_rest : (n k : ℕ) → reading_of_body n k lent (body ++ more) ≡ reading_of_body n k lent body
   unfolding reading_of_body reading_of_rows
-  rows_rest n k = go (ltb most-rows k) refl
+  rows_rest n k = go (ltb most_rows k) refl
     where
-      go : (b : Bool) → ltb most-rows k ≡ b → reading_of_body n k lent (body ++ more) ≡ reading_of_body n k lent body
+      go : (b : Bool) → ltb most_rows k ≡ b → reading_of_body n k lent (body ++ more) ≡ reading_of_body n k lent body
       go true e = rw e
       go false e =
-          let few : k ≤ most-rows = ltb-false most-rows k e in
+          let few : k ≤ most_rows = ltb-false most_rows k e in
           rw (wrong_rest (rows_keys k) body more 3 (omega (arith, rows_bytes k, enough_is, long_body)))
 
   pub rest_changes_nothing : reading_of (text ++ more) lent ≡ reading_of text lent

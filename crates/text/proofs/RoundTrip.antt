@@ -19,13 +19,13 @@ use Rattle.table.specs.declared.Row.{Row}
 use Rattle.table.specs.declared.Refusal.{Refusal}
 use Rattle.text.specs.declared.Header.{Header}
 use Rattle.text.specs.declared.Reading.TheVariants.{Read, Refused}
-use Rattle.text.specs.Text.{nodes_key, rows_key, width, line, row_text, rows_text, text_of, row-keys, RowsFit}
+use Rattle.text.specs.Text.{nodes_key, rows_key, width, line, row_text, rows_text, text_of, row_keys, RowsFit}
 use Rattle.text.specs.Text.{TableFits, line_value, line_good, line_rest, behind_lines, wrong_line, rows_keys, row_at}
 use Rattle.text.specs.Text.{rows_at, nodes_in, rows_in, body_of, reading_of_rows, reading_of_body, reading_of, rows_read}
 use Rattle.text.specs.Text.{area_after}
-use Rattle.text.proofs.Lines.{line-length, line-found, line_stands}
-use Rattle.text.proofs.RowLaws.{right_on, none_wrong, row_stands, row_fits, row-found}
-use Rattle.text.proofs.Lengths.{line-most, rows_long}
+use Rattle.text.proofs.Lines.{line-length, line_found, line_stands}
+use Rattle.text.proofs.RowLaws.{right_on, none_wrong, row_stands, row_fits, row_found}
+use Rattle.text.proofs.Lengths.{line_most, rows_long}
 
 -- The lines of rows are read as those rows, and nothing is wrong with them.
 rows_back : (rows : List Row) (l : ℕ) → RowsFit rows
@@ -33,9 +33,9 @@ rows_back : (rows : List Row) (l : ℕ) → RowsFit rows
 unfolding rows_text rows_keys wrong_line rows_at
 rows_back [] l f = (refl, refl)
 rows_back (r ∷ rs) l f =
-    let found = row-found r (rows_text rs) f.0 in
-    let rest = rows_back rs (l + length row-keys) f.1 in (
-      right_on row-keys (rows_keys (length rs)) (row_text r ++ rows_text rs) l found.right
+    let found = row_found r (rows_text rs) f.0 in
+    let rest = rows_back rs (l + length row_keys) f.1 in (
+      right_on row_keys (rows_keys (length rs)) (row_text r ++ rows_text rs) l found.right
           ∙ rw found.past rest.0,
       rw (found.row, found.past, rest.1),
     )
@@ -50,8 +50,8 @@ module _ (n : ℕ) (rows : List Row) (lent : ℕ) (fits : TableFits n rows lent)
   reading_is : reading_of (text_of n rows) lent ≡ Read (record { nodes = n; rows = length rows })
   unfolding reading_of reading_of_body reading_of_rows nodes_in rows_in body_of text_of
   reading_is =
-      let one = line-found nodes_key n lines fits.nodes_fit in
-      let two = line-found rows_key (length rows) (rows_text rows) small_count in
+      let one = line_found nodes_key n lines fits.nodes_fit in
+      let two = line_found rows_key (length rows) (rows_text rows) small_count in
       rw (
         one.0,
         one.1,
@@ -67,8 +67,8 @@ module _ (n : ℕ) (rows : List Row) (lent : ℕ) (fits : TableFits n rows lent)
   rows_are : rows_read (text_of n rows) lent ≡ rows
   unfolding rows_read body_of text_of
   rows_are =
-      let one = line-found nodes_key n lines fits.nodes_fit in
-      let two = line-found rows_key (length rows) (rows_text rows) small_count in
+      let one = line_found nodes_key n lines fits.nodes_fit in
+      let two = line_found rows_key (length rows) (rows_text rows) small_count in
       rw (reading_is, one.2, two.2) (rows_back rows 3 fits.rows_fit).1
 
   pub read_back : (reading_of (text_of n rows) lent ≡ Read (record { nodes = n; rows = length rows }))
@@ -85,9 +85,9 @@ rows_again zero (b ∷ bs) l h e = absurd (omega (arith, last e))
     last : cond (eqb (suc (length bs)) 0) 0 l ≡ 0 → l ≡ 0
     last e = rw (ne_eqb (suc (length bs)) 0 (λ s. omega arith)) at e
 rows_again (suc n) text l h e =
-    let right = none_wrong row-keys (rows_keys n) text l h e in
-    let on = sym (right_on row-keys (rows_keys n) text l right) ∙ e in
-    let rest = rows_again n (behind_lines row-keys text) (l + length row-keys) (omega arith) on in (
+    let right = none_wrong row_keys (rows_keys n) text l h e in
+    let on = sym (right_on row_keys (rows_keys n) text l right) ∙ e in
+    let rest = rows_again n (behind_lines row_keys text) (l + length row_keys) (omega arith) on in (
       row_stands text right ∙ ap (λ (t : List ℕ). row_text (row_at text) ++ t) rest.0,
       ap suc rest.1,
       (row_fits text right, rest.2),
@@ -165,8 +165,8 @@ module _ (text : List ℕ) (lent : ℕ) (h : Header) (e : reading_of text lent �
   unfolding text_of
   write_back = text_stands ∙ rw (nodes_are, rows_said, again.1, ← again.0)
 
-  pub rows-counted : h.rows ≡ length (rows_read text lent)
-  rows-counted = ap (λ (g : Header). g.rows) said.head ∙ sym (ap length rows_said ∙ again.1)
+  pub rows_counted : h.rows ≡ length (rows_read text lent)
+  rows_counted = ap (λ (g : Header). g.rows) said.head ∙ sym (ap length rows_said ∙ again.1)
 
   pub read_fits : TableFits h.nodes (rows_read text lent) lent
   unfolding nodes_in
@@ -232,7 +232,7 @@ unfolding text_of
 longest_text n rows few =
     simp length-append (omega (
       arith,
-      line-most nodes_key n,
+      line_most nodes_key n,
       line-length rows_key (length rows),
       count_width (length rows) few,
       rows_long rows,

@@ -3,9 +3,9 @@
 --     right_on                     then the first wrong line is looked for behind them
 --     none_wrong                   where none is wrong, they are right, and none is wrong behind them
 --     lines_stand, lines_fit       then the text is just these lines and the rest, and the values are 16-bit
---     lines-found                  and a text that begins with such lines is seen to, with their values and the rest
+--     lines_found                  and a text that begins with such lines is seen to, with their values and the rest
 --     made, row_values, values_back      each key of a row has its value, and a row and its values say the same
---     row_stands, row-found        the same of the lines of a row
+--     row_stands, row_found        the same of the lines of a row
 -- Assumes nothing.
 use mathlib.Core.Path.{◌≡◌, refl, ◌∙◌, ap, sym, subst}
 use mathlib.Core.Bool.{Bool, true, false, cond}
@@ -16,9 +16,9 @@ use lib.ListN.{length, get_or}
 use Rattle.lists.proofs.Build.{build_of}
 use Rattle.table.specs.declared.Row.{Row}
 use Rattle.table.specs.Table.{row_numbers, row_by}
-use Rattle.text.specs.Text.{line, row-keys, lines_text, row_text, ValuesFit, line_good, line_value}
+use Rattle.text.specs.Text.{line, row_keys, lines_text, row_text, ValuesFit, line_good, line_value}
 use Rattle.text.specs.Text.{line_rest, values_at, behind_lines, wrong_line, row_at}
-use Rattle.text.proofs.Lines.{line_stands, line-found}
+use Rattle.text.proofs.Lines.{line_stands, line_found}
 
 -- all of the lines of some keys are exactly so
 abbrev pub Right : (keys : List (List ℕ)) (text : List ℕ) → Type 0
@@ -73,16 +73,16 @@ pub record Found (keys : List (List ℕ)) (vs rest text : List ℕ) : Type 0 whe
   pub says : values_at keys text ≡ vs
   pub past : behind_lines keys text ≡ rest
 
-pub lines-found : (keys : List (List ℕ)) (vs rest : List ℕ) → length vs ≡ length keys → ValuesFit vs
+pub lines_found : (keys : List (List ℕ)) (vs rest : List ℕ) → length vs ≡ length keys → ValuesFit vs
     → Found keys vs rest (lines_text keys vs ++ rest)
 unfolding lines_text values_at behind_lines
-lines-found [] [] rest e f = record { right = tt; says = refl; past = refl }
-lines-found [] (v ∷ vs) rest e f = absurd (omega arith)
-lines-found (k ∷ ks) [] rest e f = absurd (omega arith)
-lines-found (k ∷ ks) (v ∷ vs) rest e f =
+lines_found [] [] rest e f = record { right = tt; says = refl; past = refl }
+lines_found [] (v ∷ vs) rest e f = absurd (omega arith)
+lines_found (k ∷ ks) [] rest e f = absurd (omega arith)
+lines_found (k ∷ ks) (v ∷ vs) rest e f =
     let on = lines_text ks vs ++ rest in
-    let one = line-found k v on f.0 in
-    let all = lines-found ks vs rest (omega arith) f.1 in
+    let one = line_found k v on f.0 in
+    let all = lines_found ks vs rest (omega arith) f.1 in
     rw append_assoc
     (record {
       right = (one.0, rw one.2 all.right);
@@ -95,34 +95,34 @@ abbrev pub made : List ℕ → Row
 made vs = row_by (λ j. get_or vs j 0)
 
 -- each key of a row has its value, and the values of a row make that row
-pub row_values : (r : Row) → (length (row_numbers r) ≡ length row-keys) × (made (row_numbers r) ≡ r)
-unfolding row-keys
+pub row_values : (r : Row) → (length (row_numbers r) ≡ length row_keys) × (made (row_numbers r) ≡ r)
+unfolding row_keys
 row_values r = (refl, refl)
 
 -- so many values as a row has keys are the values of the row that they make
-pub values_back : (vs : List ℕ) → length vs ≡ length row-keys → row_numbers (made vs) ≡ vs
-unfolding row-keys
-values_back vs e = build_of (length row-keys) 0 vs e
+pub values_back : (vs : List ℕ) → length vs ≡ length row_keys → row_numbers (made vs) ≡ vs
+unfolding row_keys
+values_back vs e = build_of (length row_keys) 0 vs e
 
-pub row_stands : (text : List ℕ) → Right row-keys text → text ≡ row_text (row_at text) ++ behind_lines row-keys text
+pub row_stands : (text : List ℕ) → Right row_keys text → text ≡ row_text (row_at text) ++ behind_lines row_keys text
 unfolding row_text row_at
 row_stands text g =
-    let are = sym (values_back (values_at row-keys text) (values_many row-keys text)) in
-    lines_stand row-keys text g ∙ ap (λ (vs : List ℕ). lines_text row-keys vs ++ behind_lines row-keys text) are
+    let are = sym (values_back (values_at row_keys text) (values_many row_keys text)) in
+    lines_stand row_keys text g ∙ ap (λ (vs : List ℕ). lines_text row_keys vs ++ behind_lines row_keys text) are
 
-pub row_fits : (text : List ℕ) → Right row-keys text → ValuesFit (row_numbers (row_at text))
+pub row_fits : (text : List ℕ) → Right row_keys text → ValuesFit (row_numbers (row_at text))
 unfolding row_at
 row_fits text g =
-    subst ValuesFit (sym (values_back (values_at row-keys text) (values_many row-keys text))) (lines_fit row-keys text g)
+    subst ValuesFit (sym (values_back (values_at row_keys text) (values_many row_keys text))) (lines_fit row_keys text g)
 
 -- a text that begins with a row's lines is seen to, with that row and the rest
 pub record RowFound (r : Row) (rest text : List ℕ) : Type 0 where
-  pub right : Right row-keys text
+  pub right : Right row_keys text
   pub row : row_at text ≡ r
-  pub past : behind_lines row-keys text ≡ rest
+  pub past : behind_lines row_keys text ≡ rest
 
-pub row-found : (r : Row) (rest : List ℕ) → ValuesFit (row_numbers r) → RowFound r rest (row_text r ++ rest)
+pub row_found : (r : Row) (rest : List ℕ) → ValuesFit (row_numbers r) → RowFound r rest (row_text r ++ rest)
 unfolding row_text row_at
-row-found r rest f =
-    let all = lines-found row-keys (row_numbers r) rest (row_values r).0 f in
+row_found r rest f =
+    let all = lines_found row_keys (row_numbers r) rest (row_values r).0 f in
     record { right = all.right; row = ap made all.says ∙ (row_values r).1; past = all.past }

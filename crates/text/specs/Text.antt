@@ -1,6 +1,6 @@
 -- The table as text, in the words of document 01: lines of key=value in a fixed order, and what is wrong with a text.
 use Rattle.std.specs.Prelude.{ℕ, zero, suc, ◌+◌, ◌-◌, ◌*◌, ◌/◌, ◌%◌, ◌≤◌, ◌≡◌, Bool, true, false, cond, ◌&&◌, List, [], ◌∷◌, ◌++◌, eqb, ltb, leb, length, get_or, drop}
-use Rattle.table.specs.Table.{refuse, most-rows, row_numbers, row_by}
+use Rattle.table.specs.Table.{refuse, most_rows, row_numbers, row_by}
 use Rattle.table.specs.Steps.{columns, listed}
 use Rattle.table.specs.declared.Row.{Row}
 use Rattle.text.specs.declared.Parsed.{Parsed}
@@ -61,8 +61,8 @@ unfoldable pub line : (key : List ℕ) → ℕ → List ℕ
 line key v = item key v line_feed
 
 -- The keys of a row's lines, in the order of the row's numbers.
-unfoldable pub row-keys : List (List ℕ)
-row-keys = src_key ∷ dst_key ∷ len_key ∷ due_key ∷ []
+unfoldable pub row_keys : List (List ℕ)
+row_keys = src_key ∷ dst_key ∷ len_key ∷ due_key ∷ []
 
 -- The lines of some keys with a value each, in order.
 unfoldable pub lines_text : (keys : List (List ℕ)) (values : List ℕ) → List ℕ
@@ -72,7 +72,7 @@ lines_text (k ∷ ks) (v ∷ vs) = line k v ++ lines_text ks vs
 
 -- The lines of a row: src, dst, len, due.
 unfoldable pub row_text : Row → List ℕ
-row_text r = lines_text row-keys (row_numbers r)
+row_text r = lines_text row_keys (row_numbers r)
 
 -- The lines of the rows, in order.
 unfoldable pub rows_text : List Row → List ℕ
@@ -96,7 +96,7 @@ RowsFit (r ∷ rs) = ValuesFit (row_numbers r) × RowsFit rs
 pub record TableFits (n : ℕ) (rows : List Row) (lent : ℕ) : Type 0 where
   pub nodes_fit : n ≤ greatest_value
   pub rows_fit : RowsFit rows
-  pub few : length rows ≤ most-rows
+  pub few : length rows ≤ most_rows
   pub room : length rows ≤ lent
 
 -- Whether some bytes stand at the front of others.
@@ -164,15 +164,15 @@ wrong_line (k ∷ ks) text l = cond (line_good k text) (wrong_line ks (line_rest
 -- The keys of the lines of n rows.
 unfoldable pub rows_keys : ℕ → List (List ℕ)
 rows_keys zero = []
-rows_keys (suc n) = row-keys ++ rows_keys n
+rows_keys (suc n) = row_keys ++ rows_keys n
 
 -- The row that the lines of a row say, and the rows that the lines of n rows say.
 unfoldable pub row_at : List ℕ → Row
-row_at text = row_by (λ j. get_or (values_at row-keys text) j 0)
+row_at text = row_by (λ j. get_or (values_at row_keys text) j 0)
 
 unfoldable pub rows_at : (n : ℕ) → List ℕ → List Row
 rows_at zero text = []
-rows_at (suc n) text = row_at text ∷ rows_at n (behind_lines row-keys text)
+rows_at (suc n) text = row_at text ∷ rows_at n (behind_lines row_keys text)
 
 -- The number of nodes, the number of rows, and the text of the rows: what lines 1 and 2 say, and what is behind them.
 unfoldable pub nodes_in : List ℕ → ℕ
@@ -194,7 +194,7 @@ reading_of_rows n k body =
 unfoldable pub reading_of_body : (nodes rows lent : ℕ) → List ℕ → Reading
 reading_of_body n k lent body =
     let rest = reading_of_rows n k body in
-    cond (ltb most-rows k) (Refused (refuse 2 0 0)) (cond (ltb lent k) (Refused (refuse 21 0 0)) rest)
+    cond (ltb most_rows k) (Refused (refuse 2 0 0)) (cond (ltb lent k) (Refused (refuse 21 0 0)) rest)
 
 -- What reading a text comes to, where so many records are lent: lines 1 and 2 first, each 20 where it is wrong.
 unfoldable pub reading_of : (text : List ℕ) (lent : ℕ) → Reading
@@ -224,13 +224,13 @@ pub record TextParsed (text : List ℕ) (lent : ℕ) (p : Parsed) : Type 0 where
 -- short, and else the length.
 unfoldable pub writing_of : (nodes : ℕ) (rows : List Row) (room : ℕ) → Writing
 writing_of n rows room =
-    cond (ltb most-rows (length rows)) (NotWritten (refuse 2 0 0))
+    cond (ltb most_rows (length rows)) (NotWritten (refuse 2 0 0))
     (cond (ltb room (length (text_of n rows))) (NotWritten (refuse 22 0 0)) (Written (length (text_of n rows))))
 
 -- The area after writing: the text and what stood behind it, and as it was where it is refused.
 unfoldable pub area_after : (nodes : ℕ) (rows : List Row) (area : List ℕ) → List ℕ
 area_after n rows area =
-    cond (ltb most-rows (length rows)) area
+    cond (ltb most_rows (length rows)) area
     (cond (ltb (length area) (length (text_of n rows))) area (text_of n rows ++ drop (length (text_of n rows)) area))
 
 -- The number of document 01 for each answer, 0 where there is no refusal, and the line that it names, 0 where it names

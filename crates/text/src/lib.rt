@@ -4,7 +4,7 @@
 
 ghost use Rattle.std.specs.Prelude.{◌≡◌, [], ◌+◌, ◌%◌, ◌≤◌, ◌<◌, length, get_or, drop};
 ghost use Rattle.table.specs.Table.{refuse, row_numbers, row_by};
-ghost use Rattle.text.specs.Text.{starts, width, numeral, item, line, digit_zero, row-keys};
+ghost use Rattle.text.specs.Text.{starts, width, numeral, item, line, digit_zero, row_keys};
 ghost use Rattle.text.specs.Steps.{tenth, pasted};
 
 use ring::Slot;
@@ -52,8 +52,8 @@ const ROW_KEYS: [[u8; 4]; ROW_LINES] = [
 
 // The key of line j of a row, counted from 0.
 pub fn row_key(j: usize) -> [u8; 4]
-    requires { j < length row-keys }
-    ensures { result ≡ get_or row-keys j [] }
+    requires { j < length row_keys }
+    ensures { result ≡ get_or row_keys j [] }
 {
     ROW_KEYS[j]
 }

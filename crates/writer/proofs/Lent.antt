@@ -13,7 +13,7 @@ use lib.ListN.{length}
 use Rattle.table.specs.declared.Row.{Row}
 use Rattle.table.specs.Table.{refuse}
 use Rattle.table.specs.Steps.{columns, listed}
-use Rattle.table.proofs.Rows.{length-listed, listed-columns}
+use Rattle.table.proofs.Rows.{length-listed, listed_columns}
 use Rattle.text.specs.declared.Writing.{Writing}
 use Rattle.text.specs.declared.Writing.TheVariants.{Refused as NotWritten}
 use Rattle.text.specs.Text.{writing_of, area_after, TextPut}
@@ -47,7 +47,7 @@ loaded_put n rows area {area'} {r} d = go (ltb 512 (length rows)) refl
           fills = d.1 ∙ many_left n loaded area l' ∙ sym (many_left n rows area l);
         }
     go false e =
-        let all : loaded ≡ rows = listed-columns rows (ltb-false 512 (length rows) e) in
+        let all : loaded ≡ rows = listed_columns rows (ltb-false 512 (length rows) e) in
         record {
           answers = d.0 ∙ ap (λ (xs : List Row). writing_of n xs (length area)) all;
           fills = d.1

@@ -14,7 +14,7 @@ use Rattle.table.proofs.Rows.{length-listed}
 use Rattle.text.specs.declared.Writing.TheVariants.{Written, Refused as NotWritten}
 use Rattle.text.specs.Text.{nodes_key, rows_key, line, rows_text, text_of, writing_of, area_after}
 use Rattle.text.specs.Steps.{pasted}
-use Rattle.text.proofs.Lengths.{line-most}
+use Rattle.text.proofs.Lengths.{line_most}
 use Rattle.writer.proofs.Left.{rows_most}
 
 module _ (n rows : ℕ) (c : Columns) (area : List ℕ) where
@@ -35,7 +35,7 @@ module _ (n rows : ℕ) (c : Columns) (area : List ℕ) where
   text_length = ap length text_is ∙ simp length-append (omega arith)
 
   pub text_most : rows ≤ 512 → length (line nodes_key n) + length (line rows_key rows) + length (rows_text table) ≤ 20503
-  text_most h = omega (arith, line-most nodes_key n, line-most rows_key rows, rows_most rows c)
+  text_most h = omega (arith, line_most nodes_key n, line_most rows_key rows, rows_most rows c)
 
   module _ (few : rows ≤ 512) where
     pub no_room : length area < length (text_of n table) → (NotWritten (refuse 22 0 0) ≡ writing_of n table (length area))

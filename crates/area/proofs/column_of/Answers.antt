@@ -3,8 +3,8 @@
 use lib.ListN.{length-set}
 use mathlib.Core.Path.{◌∙◌}
 use native.Mathlib.Omega.{arith}
-use Rattle.lists.proofs.Filling.{filled_more, filled-whole}
-use Rattle.table.specs.Table.{most-rows}
+use Rattle.lists.proofs.Filling.{filled_more, filled_whole}
+use Rattle.table.specs.Table.{most_rows}
 use Rattle.area.specs.Steps.{column_in}
 use Rattle.area.proofs.column_of.Goals as goal
 
@@ -17,4 +17,4 @@ pub returns : goal.returns
 unfolding column_in
 returns c =
     let l = c.loop-i in
-    l.invariant.3 ∙ filled-whole _ _ l.i most-rows (omega arith) l.invariant.2
+    l.invariant.3 ∙ filled_whole _ _ l.i most_rows (omega arith) l.invariant.2

@@ -2,11 +2,11 @@
 -- Assumes nothing.
 use mathlib.Core.Path.{◌∙◌, sym}
 use native.Mathlib.Omega.{arith}
-use Rattle.catalogue.proofs.Strings.{same-long, same_differ, same_next, same_end}
+use Rattle.catalogue.proofs.Strings.{same_long, same_differ, same_next, same_end}
 use Rattle.catalogue.proofs.same_bytes.Goals as goal
 
 pub returns-then-a-b : goal.returns-then-a-b
-returns-then-a-b c = sym (same-long c.args.a.now c.args.b.now c.if-a-b.true)
+returns-then-a-b c = sym (same_long c.args.a.now c.args.b.now c.if-a-b.true)
 
 pub returns-then-a-i : goal.returns-then-a-i
 returns-then-a-i c =

@@ -7,7 +7,7 @@ use native.Mathlib.Numerals.{add-one}
 use native.Mathlib.Omega.{arith}
 use lib.ListN.{length}
 use Rattle.lists.specs.Lists.{total}
-use Rattle.lists.proofs.Sums.{total-last}
+use Rattle.lists.proofs.Sums.{total_last}
 use Rattle.cells.specs.Steps.{looks_by}
 use Rattle.cells.proofs.Looking.{looked}
 use Rattle.cells.proofs.count_looks.Goals as goal
@@ -20,7 +20,7 @@ pub loop-i-preserved : goal.loop-i-preserved
 loop-i-preserved c =
     let loop = c.loop-i in
     let args = c.args in
-    let more = total-last loop.i (looked args.left.now args.stamps.now (args.t.0 + 1)) in
+    let more = total_last loop.i (looked args.left.now args.stamps.now (args.t.0 + 1)) in
     (omega arith, omega (arith, c.looks_at-looks.ensures.1), omega (arith, more, c.looks_at-looks.ensures.0))
 
 pub returns : goal.returns

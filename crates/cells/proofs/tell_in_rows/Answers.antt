@@ -4,7 +4,7 @@ use mathlib.Core.Path.{◌≡◌, refl, ◌∙◌, ap}
 use Prim.Native.Nat.{ℕ}
 use native.Mathlib.Omega.{arith}
 use lib.ListN.{length, length-set}
-use Rattle.lists.proofs.Filling.{filled_more, filled-whole}
+use Rattle.lists.proofs.Filling.{filled_more, filled_whole}
 use Rattle.cells.specs.Cells.{owner_of, told_by}
 use Rattle.cells.proofs.Telling.{map_is, told, untouched}
 use Rattle.cells.proofs.tell_in_rows.Goals as goal
@@ -25,5 +25,5 @@ returns c =
     let a = c.args in
     let l = c.loop-k in
     let plan₀ = a.plan.now in
-    l.invariant.2 ∙ filled-whole (told a.owner.now plan₀) plan₀ l.k (length plan₀) (omega arith) refl
+    l.invariant.2 ∙ filled_whole (told a.owner.now plan₀) plan₀ l.k (length plan₀) (omega arith) refl
     ∙ map_is (owner_of a.owner.now) plan₀

@@ -3,7 +3,7 @@
 -- Assumes nothing.
 use Rattle.std.proofs.Common.{◌≡◌, ◌<◌, min, length, take, refl, ◌∙◌, ap, add-one, arith}
 use Rattle.table.specs.Steps.{columns}
-use Rattle.lent.proofs.Loading.{columns-more, columns_all}
+use Rattle.lent.proofs.Loading.{columns_more, columns_all}
 use Rattle.lent.proofs.load.Goals as goal
 
 pub loop-i-init : goal.loop-i-init
@@ -16,7 +16,7 @@ loop-i-preserved c =
     let small : i < 512 = omega (arith, c.loop-i.invariant.1) in (
       omega arith,
       c.loop-i.invariant.1,
-      rw (add-one, columns-more rows i small) (rw (c.row_at-r.ensures, ← c.loop-i.invariant.2) refl),
+      rw (add-one, columns_more rows i small) (rw (c.row_at-r.ensures, ← c.loop-i.invariant.2) refl),
     )
 
 pub returns : goal.returns

@@ -2,7 +2,7 @@
 -- Assumes nothing.
 use mathlib.Core.Path.{◌∙◌, sym}
 use native.Mathlib.Omega.{arith}
-use Rattle.lines.proofs.Seeing.{no_key, key_inside, figures-inside, seen_great, seen_other, seen_no_end}
+use Rattle.lines.proofs.Seeing.{no_key, key_inside, figures_inside, seen_great, seen_other, seen_no_end}
 use Rattle.lines.proofs.Seeing.{seen_other_end, seen_good}
 use Rattle.lines.proofs.item_at.Goals as goal
 
@@ -44,7 +44,7 @@ overflow_add-end c =
     let f = read.figures_at-figures in
     let stands = sym one.key_at.ensures ∙ one.if-not-key_at.false in
     let inside = key_inside a.key.now a.text.now a.at start.requires.0 stands in
-    omega (arith, figures-inside a.key.now a.mark a.text.now a.at f.result f.ensures inside)
+    omega (arith, figures_inside a.key.now a.mark a.text.now a.at f.result f.ensures inside)
 
 pub returns-then-text-end : goal.returns-then-text-end
 returns-then-text-end c =

@@ -5,7 +5,7 @@ use Prim.Native.Nat.{◌+◌}
 use native.Mathlib.Omega.{arith}
 use lib.ListN.{take, get_or}
 use Rattle.lists.specs.Lists.{total}
-use Rattle.lists.proofs.Figures.{total-more}
+use Rattle.lists.proofs.Figures.{total_more}
 use borrow.Author.Rules.{rules}
 use Rattle.lists.proofs.sum.Goals as goal
 
@@ -18,5 +18,5 @@ loop-i-preserved c =
     let part = c.args.part.now in
     let more : total (take (c.loop-i.i + 1) part) ≡ total
     (take c.loop-i.i part) + get_or part c.loop-i.i 0 =
-    total-more part c.loop-i.i (omega arith) in
+    total_more part c.loop-i.i (omega arith) in
     (omega arith, omega (arith, c.type_inv.part c.loop-i.i), omega arith)

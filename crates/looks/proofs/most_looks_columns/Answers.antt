@@ -3,35 +3,15 @@
 use borrow.Author.Rules.{rules}
 use mathlib.Core.Path.{◌∙◌, sym}
 use native.Mathlib.Omega.{arith}
-use Rattle.table.proofs.Whole.{its_bounds, few-rows, in_column, in_front, front_cells, front_last}
+use Rattle.table.proofs.Whole.{its_bounds, few_rows, in_front, front_cells, front_last}
 use Rattle.planner.proofs.Judged.{held_by}
 use Rattle.looks.specs.Looks.{if_good, most_looks}
 use Rattle.looks.proofs.most_looks_columns.Goals as goal
 
-pub slice_bounds-len-end : goal.slice_bounds-len-end
-slice_bounds-len-end c =
-    let h = held_by {c = c.args.columns} (search (rules, c.well_formed)) c.judge_columns-verdict.ensures c.in-Good.is in
-    in_column h c.args.columns.len h.columned.len_all
-
-pub slice_bounds-all_looks-end : goal.slice_bounds-all_looks-end
-slice_bounds-all_looks-end c =
-    let h = held_by {c = c.args.columns} (search (rules, c.well_formed)) c.judge_columns-verdict.ensures c.in-Good.is in
-    in_front h c.args.columns.len h.columned.len_all
-
-pub slice_bounds-due-end : goal.slice_bounds-due-end
-slice_bounds-due-end c =
-    let h = held_by {c = c.args.columns} (search (rules, c.well_formed)) c.judge_columns-verdict.ensures c.in-Good.is in
-    in_column h c.args.columns.due h.columned.due_all
-
-pub slice_bounds-all_looks-end-in-Good : goal.slice_bounds-all_looks-end-in-Good
-slice_bounds-all_looks-end-in-Good c =
-    let h = held_by {c = c.args.columns} (search (rules, c.well_formed)) c.judge_columns-verdict.ensures c.in-Good.is in
-    in_front h c.args.columns.due h.columned.due_all
-
 pub all_looks-requires : goal.all_looks-requires
 all_looks-requires c =
     let h = held_by {c = c.args.columns} (search (rules, c.well_formed)) c.judge_columns-verdict.ensures c.in-Good.is in (
-      omega (arith, in_front h c.args.columns.len h.columned.len_all, few-rows h),
+      omega (arith, in_front h c.args.columns.len h.columned.len_all, few_rows h),
       rw (front_cells h) at (its_bounds h).cells,
     )
 

@@ -6,9 +6,9 @@ use Prim.Native.Nat.{ℕ, ◌≤◌, ◌+◌, ◌*◌}
 use native.Mathlib.Omega.{arith}
 use lib.ListN.{length, get_or}
 use Rattle.lists.specs.Lists.{build, total}
-use Rattle.lists.proofs.Sums.{total-last}
+use Rattle.lists.proofs.Sums.{total_last}
 use Rattle.planner.specs.Steps.{crossed}
-use Rattle.planner.proofs.Crossed.{few-crossed}
+use Rattle.planner.proofs.Crossed.{few_crossed}
 use Rattle.planner.proofs.count_sends.Goals as goal
 
 pub loop-i-init : goal.loop-i-init
@@ -23,8 +23,8 @@ overflow_add-sends c =
     let near : (j : ℕ) → get_or links j 0 ≤ 65535 = λ j. omega (arith, c.type_inv.links j) in
     omega (
       arith,
-      total-last i (λ j. get_or len j 0 * get_or links j 0),
-      few-crossed 65535 len (λ j. get_or links j 0) near (i + 1),
+      total_last i (λ j. get_or len j 0 * get_or links j 0),
+      few_crossed 65535 len (λ j. get_or links j 0) near (i + 1),
       c.requires.1,
     )
 
@@ -32,7 +32,7 @@ pub loop-i-preserved : goal.loop-i-preserved
 loop-i-preserved c =
     let loop = c.loop-i in
     let args = c.args in
-    let more = total-last loop.i (λ j. get_or args.len.now j 0 * get_or args.links.now j 0) in
+    let more = total_last loop.i (λ j. get_or args.len.now j 0 * get_or args.links.now j 0) in
     (omega arith, omega (arith, more))
 
 pub returns : goal.returns

@@ -9,7 +9,7 @@ use Rattle.table.specs.declared.Columns.{Columns}
 use Rattle.table.specs.Steps.{listed, Columned}
 use Rattle.planner.specs.declared.Reply.{Reply}
 use Rattle.planner.specs.Planner.{Planned}
-use Rattle.report.proofs.Accepting.{Answered, verdict_fits, due-fits, due_front, arrivals_fit}
+use Rattle.report.proofs.Accepting.{Answered, verdict_fits, due_fits, due_front, arrivals_fit}
 use Rattle.report.proofs.Accepting.{arrivals_front, plan_fits, plan_front, slotted, accepted_fits, refused_is}
 use Rattle.report.proofs.Accepting.{accepted_is}
 use Rattle.report.proofs.respond_table.Goals as goal
@@ -29,7 +29,7 @@ pub slice_bounds-due-end : goal.slice_bounds-due-end
 slice_bounds-due-end c =
     let all : Columned c.args.columns = search (rules, c.well_formed) in
     let k = answered all c.plan_room-plan.ensures c.arrivals_room-arrivals.ensures c.plan_columns-reply.ensures in
-    due-fits k c.in-Accepted.is
+    due_fits k c.in-Accepted.is
 
 pub slice_bounds-greatest-end : goal.slice_bounds-greatest-end
 slice_bounds-greatest-end c =

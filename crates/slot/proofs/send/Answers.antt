@@ -4,7 +4,7 @@ use mathlib.Core.Path.{◌∙◌, ap}
 use Prim.Native.Nat.{◌+◌}
 use native.Mathlib.Omega.{arith}
 use lib.ListN.{length}
-use Rattle.slot.proofs.Sending.{left-first, left_long, left_idle, left-some, left_sent}
+use Rattle.slot.proofs.Sending.{left_first, left_long, left_idle, left_some, left_sent}
 use Rattle.slot.proofs.Sending.{arrivals_first, arrivals_long, arrivals_idle, arrivals_sent, row_inside}
 use Rattle.slot.proofs.send.Goals.{then-row-gt0, else-row-gt0}
 use Rattle.slot.proofs.send.Goals as goal
@@ -12,7 +12,7 @@ use Rattle.slot.proofs.send.Goals as goal
 pub loop-p-init : goal.loop-p-init
 loop-p-init c =
     let end = c.args.t.0 + 1 in
-    (omega arith, left-first c.requires.0 end, arrivals_first c.requires.0 end)
+    (omega arith, left_first c.requires.0 end, arrivals_first c.requires.0 end)
 
 pub bounds-left-i : goal.bounds-left-i
 bounds-left-i c =
@@ -22,7 +22,7 @@ bounds-left-i c =
 
 pub overflow_sub-left : goal.overflow_sub-left
 overflow_sub-left c =
-    rw c.loop-p.invariant.1 (left-some c.requires.0 (c.args.t.0 + 1) c.loop-p.p (omega arith) (omega arith))
+    rw c.loop-p.invariant.1 (left_some c.requires.0 (c.args.t.0 + 1) c.loop-p.p (omega arith) (omega arith))
 
 pub bounds-left-i-then-row-gt0 : goal.bounds-left-i-then-row-gt0
 bounds-left-i-then-row-gt0 c =

@@ -8,7 +8,7 @@ use mir.Val.{to_z, of_z}
 use mir.Facts.{to_z-of_z}
 use native.Mathlib.Omega.{arith}
 use lib.ListN.{length, length-set}
-use Rattle.lists.proofs.Filling.{filled_more, filled-whole}
+use Rattle.lists.proofs.Filling.{filled_more, filled_whole}
 use Rattle.slack.specs.Slack.{traffic}
 use Rattle.slack.specs.Figure.{figure as figureIn, figures_of}
 use Rattle.slot.proofs.write_figures.Goals as goal
@@ -33,4 +33,4 @@ unfolding figures_of
 returns c =
     let l = c.loop-i in
     let left = c.args.left.now in
-    l.invariant.3 ∙ filled-whole _ _ l.i (length left) (omega (arith, l.invariant.1)) l.invariant.2
+    l.invariant.3 ∙ filled_whole _ _ l.i (length left) (omega (arith, l.invariant.1)) l.invariant.2

@@ -9,7 +9,7 @@ use lib.ListN.{length, take}
 use lib.Seq.{length-take-le}
 use Rattle.table.specs.Steps.{by_columns, listed}
 use Rattle.table.proofs.Rows.{length-listed, listed_fronts}
-use Rattle.table.proofs.Whole.{judge-few, judge_wide, judge_many, judge-each}
+use Rattle.table.proofs.Whole.{judge_few, judge_wide, judge_many, judge_each}
 use Rattle.table.proofs.judge_columns.Goals as goal
 
 -- A column's front, where there are no more rows than places.
@@ -21,7 +21,7 @@ returns-then-nodes-lt2 c =
     let a = c.args in
     let columns = by_columns a.src.now a.dst.now a.len.now a.due.now in
     let table = listed a.rows columns in
-    c.refused.ensures ∙ sym (judge-few a.nodes table (omega arith))
+    c.refused.ensures ∙ sym (judge_few a.nodes table (omega arith))
 
 pub returns-then-nodes-gt32 : goal.returns-then-nodes-gt32
 returns-then-nodes-gt32 c =
@@ -46,4 +46,4 @@ returns c =
     let few : a.rows ≤ 512 = omega arith in
     let fronts = listed_fronts a.rows columns (omega (arith, c.requires.src_all)) in
     c.judge_all.ensures
-    ∙ sym (judge-each a.nodes table (omega arith) (omega arith) (rw (length-listed a.rows columns) few) ∙ rw fronts)
+    ∙ sym (judge_each a.nodes table (omega arith) (omega arith) (rw (length-listed a.rows columns) few) ∙ rw fronts)

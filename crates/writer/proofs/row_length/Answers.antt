@@ -6,12 +6,12 @@ use mathlib.Core.List.{List}
 use Prim.Native.Nat.{ℕ}
 use native.Mathlib.Omega.{arith}
 use lib.ListN.{length}
-use Rattle.text.specs.Text.{row-keys, lines_text, row_text}
+use Rattle.text.specs.Text.{row_keys, lines_text, row_text}
 use Rattle.writer.proofs.Left.{none_summed, sum_small, more_summed, all_summed}
 use Rattle.writer.proofs.row_length.Goals as goal
 
 pub loop-j-init : goal.loop-j-init
-unfolding row-keys
+unfolding row_keys
 loop-j-init c = none_summed c.values_of-values.result (ap length c.values_of-values.ensures)
 
 pub overflow_add-sum : goal.overflow_add-sum
@@ -32,4 +32,4 @@ pub returns : goal.returns
 unfolding row_text
 returns c =
     let are = c.values_of-values.ensures in
-    all_summed c.loop-j.invariant (search rules) ∙ ap (λ (vs : List ℕ). length (lines_text row-keys vs)) are
+    all_summed c.loop-j.invariant (search rules) ∙ ap (λ (vs : List ℕ). length (lines_text row_keys vs)) are

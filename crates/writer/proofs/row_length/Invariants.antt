@@ -2,7 +2,7 @@
 -- Assumes nothing.
 use Prim.Native.Nat.{◌-◌}
 use lib.ListN.{length}
-use Rattle.text.specs.Text.{row-keys}
+use Rattle.text.specs.Text.{row_keys}
 use Rattle.writer.proofs.Left.{Summed}
 use Rattle.writer.proofs.row_length.Given as goal
 
@@ -10,4 +10,4 @@ abbrev pub invariant-loop-j : goal.invariant-loop-j
 invariant-loop-j l = Summed l.values l.sum l.j
 
 abbrev pub decreases-loop-j : goal.decreases-loop-j
-decreases-loop-j l = length row-keys - l.j
+decreases-loop-j l = length row_keys - l.j

@@ -13,55 +13,22 @@ use Rattle.writer.proofs.write_columns.Goals as goal
 
 pub returns-then-rows-gt512 : goal.returns-then-rows-gt512
 returns-then-rows-gt512 c =
-    let nodes = c.args.nodes in
-    let rows = c.args.rows in
-    let columns = c.args.columns in
-    let area = c.args.area.now in
-    let so = many_rows nodes rows columns area c.if-rows-gt512.true in
+    let so = many_rows c.args.nodes c.args.rows c.args.columns c.args.area.now c.if-rows-gt512.true in
     (c.not_written.ensures ∙ so.0, so.1)
 
 pub overflow_add-head : goal.overflow_add-head
 overflow_add-head c =
-    let nodes = c.args.nodes in
-    let rows = c.args.rows in
-    let columns = c.args.columns in
-    let area = c.args.area.now in
-    let l1 = c.line_length in
-    let l2 = c.line_length-2 in
-    let few = c.if-rows-gt512.false in
-    omega (arith, text_most nodes rows columns area few, l1.ensures, l2.ensures)
+    omega (arith, text_most c.args.nodes c.args.rows c.args.columns c.args.area.now c.if-rows-gt512.false)
 
 pub overflow_add-length : goal.overflow_add-length
 overflow_add-length c =
-    let nodes = c.args.nodes in
-    let rows = c.args.rows in
-    let columns = c.args.columns in
-    let area = c.args.area.now in
-    let l1 = c.line_length in
-    let l2 = c.line_length-2 in
-    let l3 = c.rows_length in
-    let few = c.if-rows-gt512.false in
-    omega (arith, text_most nodes rows columns area few, l1.ensures, l2.ensures, l3.ensures)
+    omega (arith, text_most c.args.nodes c.args.rows c.args.columns c.args.area.now c.if-rows-gt512.false)
 
 pub returns-then-area-length : goal.returns-then-area-length
 returns-then-area-length c =
-    let nodes = c.args.nodes in
-    let rows = c.args.rows in
-    let columns = c.args.columns in
-    let area = c.args.area.now in
-    let l1 = c.line_length in
-    let l2 = c.line_length-2 in
-    let l3 = c.rows_length in
-    let few = c.if-rows-gt512.false in
-    let so = no_room nodes rows columns area few
-    (omega (
-      arith,
-      text_length nodes rows columns area,
-      l1.ensures,
-      l2.ensures,
-      l3.ensures,
-      c.if-area-length.true,
-    )) in
+    let a = c.args in
+    let so = no_room a.nodes a.rows a.columns a.area.now c.if-rows-gt512.false
+    (omega (arith, text_length a.nodes a.rows a.columns a.area.now)) in
     (c.not_written-then-area-length.ensures ∙ so.0, so.1)
 
 pub returns : goal.returns
