@@ -1,6 +1,5 @@
 -- Lists of rows of which none is bad, and what that has to do with judging a table.
 --     AllGood                          no row of the list is bad
---     good_row                         what a row is that isn't bad
 --     good_append, good_split          two such lists in one, and the two parts of one
 --     judged_good, good_judged         such a list is judged good, and one that is judged good is such a list
 --     cells_few                        it has at most 64 cells a row
@@ -8,46 +7,38 @@
 use mathlib.Core.Path.{◌≡◌, refl, sym, subst}
 use Prim.Native.Nat.{ℕ, suc, ◌*◌, ◌≤◌}
 use native.Mathlib.Omega.{arith}
-use mathlib.Core.Bool.{Bool, true, false, cond}
 use mathlib.Core.List.{List, [], ◌∷◌, ◌++◌}
-use borrow.Author.Tests.{eqb-true}
-use lib.Dec.{eqb}
 use lib.ListN.{length, take, drop, take-append-drop}
+use Rattle.std.proofs.Common.{Result, Ok, Err}
 use Rattle.lists.specs.Lists.{total}
 use Rattle.table.specs.declared.Row.{Row}
-use Rattle.table.specs.declared.Verdict.TheVariants.{Good, Refused}
-use Rattle.table.specs.Table.{most_length, refuse, row_refusal, judge_rows, lengths, cells_in}
-use Rattle.table.proofs.Judging.{GoodRow, good_rows, never_good}
+use Rattle.table.specs.Table.{most_length, row_refusal, after_row, judge_rows, lengths, cells_in}
+use Rattle.table.proofs.Judging.{good_row}
 
 -- No row of the list is bad.
 unfoldable pub AllGood : ℕ → List Row → Type 0
 AllGood n [] = Unit
-AllGood n (r ∷ rows) = (row_refusal n r ≡ 0) × AllGood n rows
+AllGood n (r ∷ rows) = (row_refusal n r ≡ Ok tt) × AllGood n rows
 
 module _ (n : ℕ) where
   -- Rows of which none is bad are judged good.
-  pub judged_good : (rows : List Row) (above : ℕ) → AllGood n rows → judge_rows n rows above ≡ Good
-  unfolding AllGood judge_rows
+  pub judged_good : (rows : List Row) (above : ℕ) → AllGood n rows → judge_rows n rows above ≡ Ok tt
+  unfolding AllGood judge_rows after_row
   judged_good [] above g = refl
   judged_good (r ∷ rows) above g = rw g.0 (judged_good rows (suc above) g.1)
 
   -- Rows that are judged good have no bad one among them.
-  pub good_judged : (rows : List Row) (above : ℕ) → judge_rows n rows above ≡ Good → AllGood n rows
-  unfolding AllGood judge_rows
+  pub good_judged : (rows : List Row) (above : ℕ) → judge_rows n rows above ≡ Ok tt → AllGood n rows
+  unfolding AllGood judge_rows after_row
   good_judged [] above e = tt
-  good_judged (r ∷ rows) above e = go (eqb (row_refusal n r) 0) refl e (good_judged rows (suc above))
+  good_judged (r ∷ rows) above e = go (row_refusal n r) refl e (good_judged rows (suc above))
     where
-      go : (b : Bool)
-          → eqb (row_refusal n r) 0 ≡ b
-          → cond b (judge_rows n rows (suc above)) (Refused (refuse (row_refusal n r) (suc above) 0)) ≡ Good
-          → (judge_rows n rows (suc above) ≡ Good → AllGood n rows) → (row_refusal n r ≡ 0) × AllGood n rows
-      go true f e rest = (eqb-true (row_refusal n r) 0 f, rest e)
-      go false f e rest = absurd (never_good _ e)
-
-  -- A row that isn't bad lies on the ring, goes somewhere, has 1 to 64 cells and a due slot.
-  pub good_row : (r : Row) → row_refusal n r ≡ 0 → GoodRow n r
-  unfolding AllGood
-  good_row r e = good_rows n (r ∷ []) 0 (judged_good (r ∷ []) 0 (e, tt)) 0 (omega arith)
+      go : (v : Result Unit ℕ)
+          → row_refusal n r ≡ v
+          → after_row v (suc above) (judge_rows n rows (suc above)) ≡ Ok tt
+          → (judge_rows n rows (suc above) ≡ Ok tt → AllGood n rows) → (row_refusal n r ≡ Ok tt) × AllGood n rows
+      go (Ok _) f e rest = (f, rest e)
+      go (Err _) f e rest = absurd cc
 
   -- Two lists without a bad row, one behind the other.
   pub good_append : (xs ys : List Row) → AllGood n xs → AllGood n ys → AllGood n (xs ++ ys)
@@ -69,4 +60,4 @@ module _ (n : ℕ) where
   pub cells_few : (rows : List Row) → AllGood n rows → cells_in rows ≤ most_length * length rows
   unfolding AllGood cells_in lengths total
   cells_few [] g = omega arith
-  cells_few (r ∷ rows) g = omega (arith, (good_row r g.0).len_most, cells_few rows g.1)
+  cells_few (r ∷ rows) g = omega (arith, (good_row n r g.0).len_most, cells_few rows g.1)

@@ -1,24 +1,25 @@
 -- What the functions that only read an area show.
 --     load_there, load_none      the load of a link that the ring has, and of one that it hasn't
 --     loads_part                 the loads are one part of the area
---     listed_columns             the columns hold the rows of the area
+--     build_more                 one row more
+--     listed_few, listed_many    the rows that are listed
 -- Assumes nothing.
 use mathlib.Core.Path.{◌≡◌, refl, ◌∙◌, ap, sym}
-use mathlib.Core.Bool.{Bool, true, false}
-use mathlib.Core.List.{List}
-use Prim.Native.Nat.{ℕ, ◌+◌, ◌-◌, ◌≤◌, ◌<◌, min}
+use mathlib.Core.List.{List, [], ◌∷◌, ◌++◌}
+use Prim.Native.Nat.{ℕ, zero, suc, ◌+◌, ◌-◌, ◌≤◌, ◌<◌, min}
+use native.Mathlib.Nat.{le_of_suc-le-suc}
 use native.Mathlib.Omega.{arith}
-use borrow.Author.Tests.{ltb-true, ltb-false}
 use borrow.Rule.Slice.PartMut.{mid_of, mid_len}
-use lib.Dec.{ltb}
-use lib.ListN.{length, get_or, drop, get_or-eq_default}
+use lib.ListN.{length, get_or, take, drop, get_or-eq_default}
+use Rattle.std.proofs.lemmas.List.{take_all}
 use lib.Seq.{get_or-take, get_or-drop}
-use Rattle.lists.proofs.Build.{length-build, get_or_build, is_build, build_ext}
+use Rattle.lists.specs.Lists.{build}
+use Rattle.lists.proofs.Build.{length-build, get_or_build, is_build}
 use Rattle.table.specs.Table.{most_rows}
-use Rattle.table.specs.Steps.{listed}
-use Rattle.area.specs.Area.{most_links, loads_begin, row_place, room}
+use Rattle.table.specs.Steps.{none}
+use Rattle.area.specs.Area.{most_links, most_listed, loads_begin, row_place, room}
+use Rattle.area.proofs.RowNumbers.{row_by_ext}
 use Rattle.area.specs.Area.{nodes_in, count_in, load_in, loads_in, row_in, rows_in}
-use Rattle.area.specs.Steps.{column_in}
 
 module _ (s : List ℕ) (m : ℕ) (most : m ≡ min (nodes_in s) most_links) where
   pub load_there : (p : ℕ) → p < m → get_or s (loads_begin + p) 0 ≡ get_or (loads_in s) p 0
@@ -43,34 +44,33 @@ module _ (s : List ℕ) (m : ℕ) (most : m ≡ min (nodes_in s) most_links) whe
       entry : (p : ℕ) → p < min (nodes_in s) most_links → get_or (mid_of loads_begin long s) p 0 ≡ load_in s p
       entry p h = get_or-take long (drop loads_begin s) p 0 (omega arith) ∙ get_or-drop loads_begin s p 0
 
--- An entry of a column, inside it and past its end.
-column_at : (s : List ℕ) (field i : ℕ)
-    → length s ≡ room
-    → get_or (column_in field s) i 0 ≡ get_or s (row_place i + field) 0
-unfolding column_in
-column_at s field i whole = go (ltb i most_rows) refl
-  where
-    entry : ℕ → ℕ
-    entry j = get_or s (row_place j + field) 0
+-- One row more, put behind those built so far.
+pub build_more {ℓ} : {A : Type ℓ} (i : ℕ) (f : ℕ → A) → build i f ++ (f i ∷ []) ≡ build (suc i) f
+build_more zero f = refl
+build_more {A} (suc i) f = ap {B = List A} (λ l. f 0 ∷ l) (build_more i (λ j. f (suc j)))
 
-    go : (b : Bool) → ltb i most_rows ≡ b → get_or (column_in field s) i 0 ≡ get_or s (row_place i + field) 0
-    go true e = get_or_build most_rows entry i 0 (ltb-true i most_rows e)
-    go false e =
-        let past = ltb-false i most_rows e in
-        get_or-eq_default (column_in field s) 0 {n = i} (omega (arith, length-build most_rows entry))
-        ∙ sym (get_or-eq_default s 0 {n = row_place i + field} (omega arith))
+-- The first k of the entries that a rule builds.
+take_build {ℓ} : {A : Type ℓ} (k n : ℕ) (f : ℕ → A) → k ≤ n → take k (build n f) ≡ build k f
+take_build zero n f h = refl
+take_build (suc k) zero f h = absurd (omega arith)
+take_build {A} (suc k) (suc n) f h = ap {B = List A} (λ l. f 0 ∷ l) (take_build k n (λ j. f (suc j)) (le_of_suc-le-suc h))
 
--- The columns, each of one number of every row, hold the rows of the area.
-pub listed_columns : (s src dst len due : List ℕ)
-    → length s ≡ room
-    → src ≡ column_in 0 s
-    → dst ≡ column_in 1 s
-    → len ≡ column_in 2 s
-    → due ≡ column_in 3 s
-    → listed (count_in s) (record { src = src; dst = dst; len = len; due = due }) ≡ rows_in s
-unfolding listed rows_in row_in
-listed_columns s src dst len due whole a b c d =
-    build_ext (count_in s) _ (row_in s) (λ i h. cc (at 0 i a, at 1 i b, at 2 i c, at 3 i d))
-  where
-    at : {xs : List ℕ} (field i : ℕ) → xs ≡ column_in field s → get_or xs i 0 ≡ get_or s (row_place i + field) 0
-    at {xs} field i is = ap (λ (l : List ℕ). get_or l i 0) is ∙ column_at s field i whole
+-- The rows of an area that gives no more than a table may have, and those that are listed of one that gives more: past
+-- the last place there is the row of four zeros.
+module _ (s : List ℕ) where
+  pub listed_few : count_in s ≤ most_rows → build (count_in s) (row_in s) ≡ take most_listed (rows_in s)
+  unfolding rows_in
+  listed_few few = sym (take_all most_listed (build (count_in s) (row_in s)) (omega (arith, length-build (count_in s) (row_in s))))
+
+  past_last : length s ≡ room → row_in s most_rows ≡ none
+  unfolding row_in
+  past_last whole = row_by_ext _ (λ j. 0) (λ j l. get_or-eq_default s 0 {n = row_place most_rows + j} (omega arith))
+
+  pub listed_many : (i : ℕ) → i ≡ most_rows → length s ≡ room → i < count_in s
+      → build i (row_in s) ++ (none ∷ []) ≡ take most_listed (rows_in s)
+  unfolding rows_in
+  listed_many i e whole many =
+      let last : row_in s i ≡ none = ap (row_in s) e ∙ past_last whole in
+      rw (sym last) (build_more i (row_in s))
+      ∙ sym (take_build (suc i) (count_in s) (row_in s) many)
+      ∙ ap (λ (k : ℕ). take (suc k) (build (count_in s) (row_in s))) e

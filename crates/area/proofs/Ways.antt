@@ -13,18 +13,18 @@ use mathlib.Core.Bool.{Bool, true, false, cond, ◌||◌, ◌&&◌}
 use mathlib.Core.List.{List, [], ◌∷◌}
 use borrow.Author.Tests.{ltb-true, ltb-false, leb-true, leb-false, lt-ltb, le-ltb, le-leb, lt-leb}
 use lib.Dec.{ltb, leb, leb-suc-suc, leb-suc-zero}
+use Rattle.std.proofs.Common.{Ok}
 use Rattle.lists.specs.Lists.{build, total}
 use Rattle.lists.proofs.Build.{build_ext}
 use Rattle.lists.proofs.Sums.{total_both, total_same, total_times}
 use Rattle.ring.specs.Ring.{distance}
 use Rattle.ring.proofs.Standing.{one_turn, distance_ahead, distance_round}
 use Rattle.table.specs.declared.Row.{Row}
-use Rattle.table.specs.declared.Verdict.TheVariants.{Good}
 use Rattle.table.specs.Table.{sends_of, judge_rows}
-use Rattle.table.proofs.Judging.{GoodRow}
+use Rattle.table.proofs.Judging.{GoodRow, good_row}
 use Rattle.area.specs.Area.{crosses, load}
 use Rattle.area.proofs.Loads.{counted}
-use Rattle.area.proofs.GoodRows.{AllGood, good_row, good_judged}
+use Rattle.area.proofs.GoodRows.{AllGood, good_judged}
 
 -- A test for less and a test for no more, of numbers that lie one farther apart.
 one_gap : (a b c d : ℕ) → suc a + d ≡ c + b → ltb a b ≡ leb c d
@@ -198,6 +198,6 @@ sum_of_loads n (r ∷ rows) g =
 
 -- All loads of a table without a bad row together are its sends: the sum of length times distance over its rows.
 pub loads_sum_to_sends : (n : ℕ) (rows : List Row)
-    → judge_rows n rows 0 ≡ Good
+    → judge_rows n rows 0 ≡ Ok tt
     → total (build n (load n rows)) ≡ sends_of n rows
 loads_sum_to_sends n rows good = sum_of_loads n rows (good_judged n rows 0 good)

@@ -1,21 +1,23 @@
 // A table as it lies in its lent area, and what is asked of it: its rows, the load of each link and the busiest link.
 #![tactic(auto)]
 
-ghost use Rattle.std.specs.Prelude.{◌≡◌, ◌≤◌, ◌<◌, min, length, get_or};
+ghost use Rattle.std.specs.Prelude.{◌≡◌, ◌≤◌, ◌<◌, min, length, get_or, take};
 ghost use Rattle.table.specs.Table.{most_rows};
-ghost use Rattle.table.specs.Steps.{listed};
-ghost use Rattle.area.specs.Area.{most_links, row_width, room, count_in, row_in, rows_in, loads_in, busiest_in};
-ghost use Rattle.area.specs.Steps.{column_in};
+ghost use Rattle.area.specs.Area.{most_links, most_listed, room, count_in, row_in, rows_in, loads_in, busiest_in};
 
-use lists::{first_place, greatest, lower, zeros};
+use arrayvec::ArrayVec;
+use lists::{first_place, greatest};
 use ring::Node;
-use table::{Columns, Row};
+use table::Row;
 
 // The most links that a ring may have.
 pub const MOST_LINKS: usize = 32;
 
 // The most rows that a table may have.
 pub const MOST_ROWS: usize = 512;
+
+// How many rows an area is looked through for: one more than a table may have, so that too many are seen.
+pub const MOST_LISTED: usize = MOST_ROWS + 1;
 
 // How many numbers a row has in an area.
 pub const ROW_WIDTH: usize = 4;
@@ -40,8 +42,9 @@ pub struct LinkLoad {
 }
 
 // One row of an area.
-pub fn row_in(table: &[u16], i: usize) -> Row
-    requires { (length table.now ≡ room) × (i < most_rows) }
+#[tactic(auto, unfolding(crate::specs::Area::row_in))]
+pub fn row_in(table: &Area, i: usize) -> Row
+    requires { i < most_rows }
     ensures { result ≡ row_in table.now i }
 {
     let at = ROWS_BEGIN + ROW_WIDTH * i;
@@ -64,10 +67,10 @@ pub fn row_count(table: &Area) -> u16
 fn link_count(nodes: u16) -> usize
     ensures { result ≡ min nodes most_links }
 {
-    lower(nodes as usize, MOST_LINKS)
+    (nodes as usize).min(MOST_LINKS)
 }
 
-// How many cells cross a link, 0 for a link that the ring does not have.
+// How many cells cross a link, 0 for a link that the ring does not have: a panel shows 32 links, whatever the ring.
 pub fn link_load(table: &Area, link: Node) -> u16
     ensures { result ≡ get_or (loads_in table.now) link.0 0 }
 {
@@ -97,32 +100,28 @@ pub fn busiest(table: &Area) -> LinkLoad
     ensures { result ≡ busiest_in (loads_in table.now) }
 {
     let end = LOADS_BEGIN + link_count(table[0]);
-    let whole = &table[..];
-    busiest_in(&whole[LOADS_BEGIN..end])
+    busiest_in(&table[LOADS_BEGIN..end])
 }
 
-// One number of every row, by its place in a row.
-fn column_of(table: &[u16], field: usize) -> [u16; MOST_ROWS]
-    requires { (length table.now ≡ room) × (field < row_width) }
-    ensures { result ≡ column_in field table.now }
-{
-    let mut column = zeros();
-    let mut i = 0;
-    while i < MOST_ROWS {
-        column[i] = table[ROWS_BEGIN + ROW_WIDTH * i + field];
-        i += 1;
-    }
-    column
-}
+// The row of four zeros, which stands past the last place.
+const BLANK: Row = Row {
+    src: 0,
+    dst: 0,
+    len: 0,
+    due: 0,
+};
 
-// The rows by columns, as the planner takes them.
-pub fn columns_of(table: &Area) -> Columns
-    ensures { listed (count_in table.now) result ≡ rows_in table.now }
+// The rows that the area gives: all of them where a table may have so many, and else one more than that.
+pub fn list_rows(table: &Area) -> ArrayVec<Row, MOST_LISTED>
+    ensures { result.items ≡ take most_listed (rows_in table.now) }
 {
-    Columns {
-        src: column_of(table, 0),
-        dst: column_of(table, 1),
-        len: column_of(table, 2),
-        due: column_of(table, 3),
+    let count = row_count(table) as usize;
+    let mut rows = ArrayVec::new();
+    for i in 0..count.min(MOST_ROWS) {
+        rows.push(row_in(table, i));
     }
+    if MOST_ROWS < count {
+        rows.push(BLANK);
+    }
+    rows
 }

@@ -6,19 +6,18 @@
 -- Assumes nothing.
 use mathlib.Core.Path.{◌≡◌, refl, ◌∙◌, ap, sym}
 use mathlib.Core.Logic.{◌↔◌}
-use mathlib.Core.Bool.{Bool, true, false, cond, ◌&&◌}
+use mathlib.Core.Bool.{Bool, true, false, ◌&&◌}
 use mathlib.Core.List.{List, [], ◌∷◌}
-use Prim.Native.Nat.{ℕ, zero, suc, ◌+◌, ◌<◌}
+use Prim.Native.Nat.{ℕ, zero, suc, ◌<◌}
 use native.Mathlib.Omega.{arith}
-use borrow.Author.Tests.{eqb-true, ltb-true}
-use lib.Dec.{eqb, ltb}
+use borrow.Author.Tests.{ltb-true}
+use lib.Dec.{ltb}
 use lib.ListN.{length, get_or, drop, length-drop}
-use Rattle.table.specs.declared.Verdict.{Verdict}
-use Rattle.table.specs.declared.Verdict.TheVariants.{Good, Refused}
-use Rattle.table.proofs.Judging.{never_good}
+use Rattle.std.proofs.Common.{Ok, Err, Option, Some, None}
+use Rattle.table.specs.Table.{Verdict}
 use Rattle.lists.proofs.Truth.{differ}
 use Rattle.catalogue.specs.Catalogue.{numbers, fields, keys, Distinct, IsCatalogue, lines_verdict, strings_in}
-use Rattle.catalogue.specs.Catalogue.{labels_in, first_repeat, repeated_line, after_lines, verdict_on}
+use Rattle.catalogue.specs.Catalogue.{labels_in, first_repeat, after_lines, verdict_on}
 use Rattle.catalogue.proofs.Keys.{key_plain, keys_all}
 use Rattle.catalogue.proofs.Cutting.{AllPlain, strings_counted, lines_stand, lines_found}
 use Rattle.catalogue.proofs.Labels.{distinct_none, none_distinct}
@@ -34,38 +33,27 @@ plain_keys : AllPlain keys
 plain_keys i h = key_plain i (omega (arith, keys_all))
 
 module _ (text : List ℕ) where
-  -- Where the line of the first repeat is none, no label repeats an earlier one.
-  no_line : repeated_line text ≡ 0 → first_repeat (labels_in text) (length fields) 0 ≡ 0
-  unfolding repeated_line
-  no_line e = go (eqb repeat 0) refl e
-    where
-      repeat : ℕ
-      repeat = first_repeat (labels_in text) (length fields) 0
-
-      go : (b : Bool) → eqb repeat 0 ≡ b → cond b 0 (length numbers + repeat) ≡ 0 → repeat ≡ 0
-      go true f e = eqb-true repeat 0 f
-      go false f e = absurd (omega (arith, e))
-
   -- An accepted text's lines are right, and no label repeats an earlier one.
   record Right : Type 0 where
-    lines : lines_verdict keys 0 text ≡ Good
-    labels : first_repeat (labels_in text) (length fields) 0 ≡ 0
+    lines : lines_verdict keys 0 text ≡ Ok tt
+    labels : first_repeat (labels_in text) (length fields) 0 ≡ None
 
-  both : verdict_on text ≡ Good → Right
+  both : verdict_on text ≡ Ok tt → Right
   unfolding verdict_on after_lines
-  both e = go (lines_verdict keys 0 text) refl e (eqb (repeated_line text) 0) refl
+  both e = go (lines_verdict keys 0 text) refl (first_repeat (labels_in text) (length fields) 0) refl e
     where
-      go : (v : Verdict) → lines_verdict keys 0 text ≡ v → after_lines v text ≡ Good
-          → (b : Bool) → eqb (repeated_line text) 0 ≡ b → Right
-      go (Refused r) q e b f = absurd (never_good r e)
-      go Good q e true f = record { lines = q; labels = no_line (eqb-true (repeated_line text) 0 f) }
-      go Good q e false f = absurd (never_good _ (rw f at e))
+      go : (v : Verdict) → lines_verdict keys 0 text ≡ v
+          → (o : Option ℕ) → first_repeat (labels_in text) (length fields) 0 ≡ o
+          → after_lines v o ≡ Ok tt → Right
+      go (Err r) q o f e = absurd cc
+      go (Ok _) q None f e = record { lines = q; labels = f }
+      go (Ok _) q (Some k) f e = absurd cc
 
   -- No two labels of an accepted text are equal.
-  pub distinct_labels : verdict_on text ≡ Good → Distinct (labels_in text)
+  pub distinct_labels : verdict_on text ≡ Ok tt → Distinct (labels_in text)
   distinct_labels e = none_distinct (labels_in text) (rw (labels_long text) (both e).labels)
 
-  is_catalogue : verdict_on text ≡ Good → IsCatalogue text
+  is_catalogue : verdict_on text ≡ Ok tt → IsCatalogue text
   unfolding labels_in
   is_catalogue e =
       let lines = lines_stand keys 0 text plain_keys (both e).lines in
@@ -79,7 +67,7 @@ module _ (text : List ℕ) where
 
   -- The lines of a catalogue are right, and the strings in them are its strings.
   module _ (c : IsCatalogue text) where
-    abbrev read_back : (lines_verdict keys 0 text ≡ Good) × (strings_in keys text ≡ c.strings)
+    abbrev read_back : (lines_verdict keys 0 text ≡ Ok tt) × (strings_in keys text ≡ c.strings)
     read_back =
         let found = lines_found keys c.strings 0 plain_keys c.counted c.each in
         (ap (lines_verdict keys 0) c.so ∙ found.0, ap (strings_in keys) c.so ∙ found.1)
@@ -88,16 +76,16 @@ module _ (text : List ℕ) where
     pub its_strings : strings_in keys text ≡ c.strings
     its_strings = read_back.1
 
-    is_accepted : verdict_on text ≡ Good
-    unfolding verdict_on after_lines repeated_line labels_in
+    is_accepted : verdict_on text ≡ Ok tt
+    unfolding verdict_on after_lines labels_in
     is_accepted =
         let labels = drop (length numbers) c.strings in
-        let none : first_repeat labels (length fields) 0 ≡ 0 =
+        let none : first_repeat labels (length fields) 0 ≡ None =
         rw (sym (labels_counted c.strings c.counted)) (distinct_none labels c.distinct) in
         rw (read_back.0, its_strings, none)
 
   -- A catalogue is accepted exactly if it is just its lines in order and no two labels are equal.
-  pub accepted_iff : (verdict_on text ≡ Good) ↔ IsCatalogue text
+  pub accepted_iff : (verdict_on text ≡ Ok tt) ↔ IsCatalogue text
   accepted_iff = (is_catalogue, is_accepted)
 
 -- ---- the numbers that have a sentence

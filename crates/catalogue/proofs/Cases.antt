@@ -5,13 +5,12 @@ use mathlib.Core.List.{List, [], ◌∷◌, ◌++◌, map}
 use Prim.Native.Nat.{ℕ, ◌+◌, ◌-◌}
 use lib.ListN.{length, take, set, replicate}
 use Rattle.lists.specs.Lists.{build}
-use Rattle.table.specs.Table.{refuse}
-use Rattle.table.specs.declared.Verdict.{Verdict}
-use Rattle.table.specs.declared.Verdict.TheVariants.{Good, Refused}
+use Rattle.table.specs.Table.{Verdict, refuse, after_row}
+use Rattle.std.proofs.Common.{Ok, Err}
 use Rattle.text.specs.Text.{width, last_digits, numeral, starts}
 use Rattle.catalogue.specs.Catalogue.{numbers, key_of, keys, text_of, first_line, is_ended, behind_line, string_at}
 use Rattle.catalogue.specs.Catalogue.{string_refusal, line_refusal, lines_verdict, strings_in, same, among, labels_in}
-use Rattle.catalogue.specs.Catalogue.{first_repeat, repeated_line, after_lines, verdict_on}
+use Rattle.catalogue.specs.Catalogue.{first_repeat, after_lines, verdict_on}
 
 -- r0=, r10=, r12= and f6=.
 keys_spelt :
@@ -42,10 +41,10 @@ record Case : Type 0 where
   verdict : Verdict
 
 good : List ℕ → Case
-good text = record { text = text; verdict = Good }
+good text = record { text = text; verdict = Ok tt }
 
 bad : (number line : ℕ) → List ℕ → Case
-bad number line text = record { text = text; verdict = Refused (refuse number line 0) }
+bad number line text = record { text = text; verdict = Err (refuse number line 0) }
 
 cases : List Case
 cases =
@@ -76,6 +75,6 @@ cases =
 -- Every verdict is as expected.
 cases_judged : map (λ (c : Case). verdict_on c.text) cases ≡ map (λ (c : Case). c.verdict) cases
 unfolding key_of keys text_of first_line is_ended behind_line string_at string_refusal line_refusal lines_verdict strings_in same
-    among labels_in first_repeat repeated_line after_lines verdict_on width last_digits numeral starts
+    among labels_in first_repeat after_row after_lines verdict_on width last_digits numeral starts
     cases good bad whole plain other again
 cases_judged = refl

@@ -16,15 +16,14 @@ use borrow.Author.Tests.{ne_eqb, eqb-true, eqb-false, le-leb, leb-true, le-ltb, 
 use lib.Dec.{eqb, ltb, leb}
 use lib.ListN.{length, get_or, drop}
 use lib.Seq.{drop-append_seam}
-use Rattle.table.specs.Table.{refuse}
-use Rattle.table.specs.declared.Verdict.TheVariants.{Good, Refused}
-use Rattle.table.proofs.Judging.{never_good}
+use Rattle.std.proofs.Common.{Result, Ok, Err}
+use Rattle.table.specs.Table.{Verdict, after_row}
 use Rattle.text.specs.Text.{line_feed, starts}
 use Rattle.lists.proofs.Truth.{differ}
 use Rattle.text.proofs.Front.{starts_self, starts_true}
 use Rattle.catalogue.specs.Catalogue.{longest_string, no_feed, is_string, text_of, first_line, is_ended, behind_line}
 use Rattle.catalogue.specs.Catalogue.{string_at, string_refusal, line_refusal, lines_verdict, strings_in}
-use Rattle.catalogue.proofs.Lines.{key_fronts}
+use Rattle.catalogue.proofs.LineLemmas.{key_fronts}
 
 -- An ended line is its bytes, one line feed and what stands behind.
 line_cut : (t : List ℕ) → is_ended t ≡ true → t ≡ first_line t ++ (line_feed ∷ behind_line t)
@@ -76,22 +75,22 @@ feed_found (x ∷ xs) r p = go (eqb x line_feed) p (feed_found xs r)
     go false p rest = let found = rest p in (found.0, ap (λ (l : List ℕ). x ∷ l) found.1, found.2)
 
 -- What the length of a string is that isn't refused, and what a string is.
-pub length_good : (n : ℕ) → string_refusal n ≡ 0 → (1 ≤ n) × (n ≤ longest_string)
+pub length_good : (n : ℕ) → string_refusal n ≡ Ok tt → (1 ≤ n) × (n ≤ longest_string)
 unfolding string_refusal
 length_good n e = go (eqb n 0) refl (ltb longest_string n) refl e
   where
-    go : (a : Bool) → eqb n 0 ≡ a → (b : Bool) → ltb longest_string n ≡ b → ◌≡◌ {A = ℕ} (cond (a || b) 31 0) 0
+    go : (a : Bool) → eqb n 0 ≡ a → (b : Bool) → ltb longest_string n ≡ b → ◌≡◌ {A = Result Unit ℕ} (cond (a || b) (Err 31) (Ok tt)) (Ok tt)
         → (1 ≤ n) × (n ≤ longest_string)
-    go true ea b eb e = absurd (omega arith)
-    go false ea true eb e = absurd (omega arith)
+    go true ea b eb e = absurd cc
+    go false ea true eb e = absurd cc
     go false ea false eb e = (omega (arith, eqb-false n 0 ea), ltb-false longest_string n eb)
 
-pub string_good : (s : List ℕ) → is_string s ≡ true → (string_refusal (length s) ≡ 0) × (no_feed s ≡ true)
+pub string_good : (s : List ℕ) → is_string s ≡ true → (string_refusal (length s) ≡ Ok tt) × (no_feed s ≡ true)
 unfolding is_string string_refusal
 string_good s e = go (leb 1 (length s)) refl (leb (length s) longest_string) refl e
   where
     go : (a : Bool) → leb 1 (length s) ≡ a → (b : Bool) → leb (length s) longest_string ≡ b
-        → (a && (b && no_feed s)) ≡ true → (string_refusal (length s) ≡ 0) × (no_feed s ≡ true)
+        → (a && (b && no_feed s)) ≡ true → (string_refusal (length s) ≡ Ok tt) × (no_feed s ≡ true)
     go false ea b eb e = absurd (differ e)
     go true ea false eb e = absurd (differ e)
     go true ea true eb e =
@@ -104,7 +103,7 @@ module _ (key : List ℕ) (plain : no_feed key ≡ true) where
     pub stands : t ≡ key ++ (string_at key t ++ (line_feed ∷ behind_line t))
     pub right : is_string (string_at key t) ≡ true
 
-  pub good_line : (t : List ℕ) → line_refusal key t ≡ 0 → GoodLine t
+  pub good_line : (t : List ℕ) → line_refusal key t ≡ Ok tt → GoodLine t
   unfolding line_refusal string_at is_string
   good_line t e = go (is_ended t) refl (starts key t) refl e
     where
@@ -112,9 +111,9 @@ module _ (key : List ℕ) (plain : no_feed key ≡ true) where
       string = drop (length key) (first_line t)
 
       go : (a : Bool) → is_ended t ≡ a → (b : Bool) → starts key t ≡ b
-          → cond (a && b) (string_refusal (length string)) 30 ≡ 0 → GoodLine t
-      go false ea b eb e = absurd (omega arith)
-      go true ea false eb e = absurd (omega arith)
+          → cond (a && b) (string_refusal (length string)) (Err 30) ≡ Ok tt → GoodLine t
+      go false ea b eb e = absurd cc
+      go true ea false eb e = absurd cc
       go true ea true eb e =
           let front : first_line t ≡ key ++ string = starts_true key (first_line t) (key_fronts key t plain eb) in
           let fits = length_good (length string) e in
@@ -127,7 +126,7 @@ module _ (key : List ℕ) (plain : no_feed key ≡ true) where
 
   -- The line of a key and a string is found, with its string and what stands behind it.
   line_found : (s r : List ℕ) → is_string s ≡ true
-      → let t = key ++ (s ++ (line_feed ∷ r)) in (line_refusal key t ≡ 0) × (string_at key t ≡ s) × (behind_line t ≡ r)
+      → let t = key ++ (s ++ (line_feed ∷ r)) in (line_refusal key t ≡ Ok tt) × (string_at key t ≡ s) × (behind_line t ≡ r)
   unfolding line_refusal string_at
   line_found s r good =
       let told = string_good s good in
@@ -137,7 +136,7 @@ module _ (key : List ℕ) (plain : no_feed key ≡ true) where
       let line = ap first_line one ∙ found.1 in
       let string = ap (drop (length key)) line ∙ drop-append_seam key s in
       let ended = ap is_ended one ∙ found.0 in
-      let right : line_refusal key (key ++ behind) ≡ 0 = rw (string, starts_self key behind, ended) told.0 in
+      let right : line_refusal key (key ++ behind) ≡ Ok tt = rw (string, starts_self key behind, ended) told.0 in
       (right, string, ap behind_line one ∙ found.2)
 
 -- Keys without a line feed, and strings: every one of a list.
@@ -153,23 +152,25 @@ strings_counted [] text = refl
 strings_counted (k ∷ ks) text = ap suc (strings_counted ks (behind_line text))
 
 -- A catalogue without a bad line has nothing wrong with its first line, nor with the rest.
-pub good_split : (k : List ℕ) (ks : List (List ℕ)) (a : ℕ) (text : List ℕ) → lines_verdict (k ∷ ks) a text ≡ Good
-    → (line_refusal k text ≡ 0) × (lines_verdict ks (suc a) (behind_line text) ≡ Good)
-unfolding lines_verdict
-good_split k ks a text e = go (eqb (line_refusal k text) 0) refl e
+pub good_split : (k : List ℕ) (ks : List (List ℕ)) (a : ℕ) (text : List ℕ) → lines_verdict (k ∷ ks) a text ≡ Ok tt
+    → (line_refusal k text ≡ Ok tt) × (lines_verdict ks (suc a) (behind_line text) ≡ Ok tt)
+unfolding lines_verdict after_row
+good_split k ks a text e = go (line_refusal k text) refl e
   where
-    go : (b : Bool) → eqb (line_refusal k text) 0 ≡ b
-        → cond b (lines_verdict ks (suc a) (behind_line text)) (Refused (refuse (line_refusal k text) (suc a) 0)) ≡ Good
-        → (line_refusal k text ≡ 0) × (lines_verdict ks (suc a) (behind_line text) ≡ Good)
-    go true q e = (eqb-true (line_refusal k text) 0 q, e)
-    go false q e = absurd (never_good _ e)
+    rest : Verdict
+    rest = lines_verdict ks (suc a) (behind_line text)
+
+    go : (v : Result Unit ℕ) → line_refusal k text ≡ v → after_row v (suc a) rest ≡ Ok tt
+        → (line_refusal k text ≡ Ok tt) × (rest ≡ Ok tt)
+    go (Ok _) q e = (q, e)
+    go (Err _) q e = absurd cc
 
 -- Lines that nothing is wrong with are the text of their strings.
-pub lines_stand : (ks : List (List ℕ)) (above : ℕ) (text : List ℕ) → AllPlain ks → lines_verdict ks above text ≡ Good
+pub lines_stand : (ks : List (List ℕ)) (above : ℕ) (text : List ℕ) → AllPlain ks → lines_verdict ks above text ≡ Ok tt
     → (text ≡ text_of ks (strings_in ks text)) × AllStrings (strings_in ks text)
 unfolding lines_verdict text_of strings_in
 lines_stand [] above [] plain e = (refl, λ i h. absurd (not-suc-le-zero h))
-lines_stand [] above (b ∷ bs) plain e = absurd (never_good _ e)
+lines_stand [] above (b ∷ bs) plain e = absurd cc
 lines_stand (k ∷ ks) above text plain e =
     let parts = good_split k ks above text e in
     let line = good_line k (plain 0 (omega arith)) text parts.0 in
@@ -184,8 +185,8 @@ lines_stand (k ∷ ks) above text plain e =
 
 -- The text of strings has lines that nothing is wrong with, and those strings.
 pub lines_found : (ks ss : List (List ℕ)) (above : ℕ) → AllPlain ks → length ss ≡ length ks → AllStrings ss
-    → (lines_verdict ks above (text_of ks ss) ≡ Good) × (strings_in ks (text_of ks ss) ≡ ss)
-unfolding lines_verdict text_of strings_in
+    → (lines_verdict ks above (text_of ks ss) ≡ Ok tt) × (strings_in ks (text_of ks ss) ≡ ss)
+unfolding lines_verdict after_row text_of strings_in
 lines_found [] [] above plain e good = (refl, refl)
 lines_found [] (s ∷ ss) above plain e good = absurd (omega (arith, e))
 lines_found (k ∷ ks) [] above plain e good = absurd (omega (arith, e))

@@ -1,8 +1,11 @@
 -- Labels compared.
 --     same_true, same_self            strings that are the same are equal, and a string is the same as itself
+--     same_std                        so std says it too
 --     distinct_none, none_distinct    no two labels are equal exactly if none repeats an earlier one
 -- Assumes nothing.
-use mathlib.Core.Path.{◌≡◌, refl, ◌∙◌, sym}
+use mathlib.Core.Path.{◌≡◌, refl, ◌∙◌, ap, sym}
+use Rattle.std.proofs.Common.{Some, None, nat_eq}
+use Rattle.std.specs.Cmp.Lexicographic.{pointwise}
 use mathlib.Core.Bool.{Bool, true, false, cond, ◌&&◌, ◌||◌}
 use mathlib.Core.List.{List, [], ◌∷◌}
 use Prim.Native.Nat.{ℕ, zero, suc, ◌+◌, ◌≤◌, ◌<◌}
@@ -34,6 +37,14 @@ unfolding same
 same_self [] = refl
 same_self (x ∷ a) = rw (eq-eqb x x refl) (same_self a)
 
+-- Strings are the same as std says it of two slices.
+pub same_std : (a b : List ℕ) → same a b ≡ pointwise nat_eq a b
+unfolding same
+same_std [] [] = refl
+same_std [] (y ∷ b) = refl
+same_std (x ∷ a) [] = refl
+same_std (x ∷ a) (y ∷ b) = ap (λ (t : Bool). eqb x y && t) (same_std a b)
+
 -- A string that no entry equals isn't among them, and one that isn't among them equals none.
 none_among : (s : List ℕ) (ts : List (List ℕ)) → ((i : ℕ) → i < length ts → get_or ts i [] ≡ s → ⊥) → among s ts ≡ false
 unfolding among
@@ -59,22 +70,22 @@ module _ (labels : List (List ℕ)) where
   abbrev New : (m k : ℕ) → Type 0
   New m k = (j : ℕ) → k ≤ j → j < k + m → among (get_or labels j []) (take j labels) ≡ false
 
-  none_repeats : (m k : ℕ) → New m k → first_repeat labels m k ≡ 0
+  none_repeats : (m k : ℕ) → New m k → first_repeat labels m k ≡ None
   unfolding first_repeat
   none_repeats zero k new = refl
   none_repeats (suc m) k new =
       let more : New m (suc k) = λ j l h. new j (omega arith) (omega arith) in
       rw (new k (omega arith) (omega arith)) (none_repeats m (suc k) more)
 
-  repeats_none : (m k : ℕ) → first_repeat labels m k ≡ 0 → New m k
+  repeats_none : (m k : ℕ) → first_repeat labels m k ≡ None → New m k
   unfolding first_repeat
   repeats_none zero k e = λ j l h. absurd (omega arith)
   repeats_none (suc m) k e = go (among (get_or labels k []) (take k labels)) refl e (repeats_none m (suc k))
     where
       go : (b : Bool) → among (get_or labels k []) (take k labels) ≡ b
-          → cond b (suc k) (first_repeat labels m (suc k)) ≡ 0 → (first_repeat labels m (suc k) ≡ 0 → New m (suc k))
+          → cond b (Some k) (first_repeat labels m (suc k)) ≡ None → (first_repeat labels m (suc k) ≡ None → New m (suc k))
           → New (suc m) k
-      go true f e rest = absurd (omega (arith, e))
+      go true f e rest = absurd cc
       go false f e rest = λ j l h. here j l h (dec_le j k)
         where
           here : (j : ℕ) → k ≤ j → j < k + suc m → Dec (j ≤ k) → among (get_or labels j []) (take j labels) ≡ false
@@ -82,7 +93,7 @@ module _ (labels : List (List ℕ)) where
           here j l h (no u) = rest e j (omega (arith, u)) (omega arith)
 
   -- Labels of which no two are equal have none that repeats an earlier one.
-  pub distinct_none : Distinct labels → first_repeat labels (length labels) 0 ≡ 0
+  pub distinct_none : Distinct labels → first_repeat labels (length labels) 0 ≡ None
   distinct_none d =
       none_repeats (length labels) 0 (λ j l h. none_among (get_or labels j []) (take j labels) (λ i u q. other j h i u q))
     where
@@ -93,7 +104,7 @@ module _ (labels : List (List ℕ)) where
           d i j (omega arith) (omega arith) (sym (get_or-take j labels i [] (omega arith)) ∙ q)
 
   -- And the other way round.
-  pub none_distinct : first_repeat labels (length labels) 0 ≡ 0 → Distinct labels
+  pub none_distinct : first_repeat labels (length labels) 0 ≡ None → Distinct labels
   none_distinct e i j l h q =
       let long : length (take j labels) ≡ j = length-take-le j labels (omega arith) in
       let new = repeats_none (length labels) 0 e j (omega arith) (omega arith) in

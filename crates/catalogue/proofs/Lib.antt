@@ -3,6 +3,7 @@ pub mod Cases
 mod Cutting
 pub mod Keys
 mod Labels
-mod Lines
+mod LineLemmas
 pub mod Strings
 pub mod Told
+pub mod Places

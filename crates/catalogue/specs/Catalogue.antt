@@ -1,9 +1,8 @@
 -- A catalogue and the verdict on it: document 02, Ask 4.
 use Rattle.std.specs.Prelude.{ℕ, zero, suc, ◌+◌, ◌<◌, ◌≡◌, Bool, true, false, cond, ◌&&◌, ◌||◌, List, [], ◌∷◌, ◌++◌, map, eqb, ltb, leb, length, get_or, take, drop}
+use Rattle.std.specs.Prelude.{Result, Ok, Err, Option, Some, None}
 use Rattle.lists.specs.Lists.{first_place}
-use Rattle.table.specs.Table.{refuse}
-use Rattle.table.specs.declared.Verdict.{Verdict}
-use Rattle.table.specs.declared.Verdict.TheVariants.{Good, Refused}
+use Rattle.table.specs.Table.{Verdict, refuse, after_row}
 use Rattle.text.specs.Text.{line_feed, numeral, starts}
 
 -- The numbers that have a sentence, ascending: 0 for acceptance, then every refusal.
@@ -73,24 +72,22 @@ behind_line (b ∷ bs) = cond (eqb b line_feed) bs (behind_line bs)
 unfoldable pub string_at : (key text : List ℕ) → List ℕ
 string_at key text = drop (length key) (first_line text)
 
--- 31 for a string of no bytes or of more than 96, 0 where nothing is wrong with its length.
-unfoldable pub string_refusal : (bytes : ℕ) → ℕ
-string_refusal bytes = cond (eqb bytes 0 || ltb longest_string bytes) 31 0
+-- 31 for a string of no bytes or of more than 96.
+unfoldable pub string_refusal : (bytes : ℕ) → Result Unit ℕ
+string_refusal bytes = cond (eqb bytes 0 || ltb longest_string bytes) (Err 31) (Ok tt)
 
 -- What is wrong with the first line of a text that is to have this key: 30 for a line that isn't ended or has another
--- key, 31 for a string that is empty or too long, 0 where nothing is.
-unfoldable pub line_refusal : (key text : List ℕ) → ℕ
+-- key, 31 for a string that is empty or too long.
+unfoldable pub line_refusal : (key text : List ℕ) → Result Unit ℕ
 line_refusal key text =
-    cond (is_ended text && starts key text) (string_refusal (length (string_at key text))) 30
+    cond (is_ended text && starts key text) (string_refusal (length (string_at key text))) (Err 30)
 
 -- The refusal of the first bad line, with `above` lines above the text; 30 too for whatever stands behind the last.
 unfoldable pub lines_verdict : (keys : List (List ℕ)) (above : ℕ) → (text : List ℕ) → Verdict
-lines_verdict [] above [] = Good
-lines_verdict [] above (b ∷ bs) = Refused (refuse 30 (suc above) 0)
+lines_verdict [] above [] = Ok tt
+lines_verdict [] above (b ∷ bs) = Err (refuse 30 (suc above) 0)
 lines_verdict (k ∷ ks) above text =
-    cond (eqb (line_refusal k text) 0)
-    (lines_verdict ks (suc above) (behind_line text))
-    (Refused (refuse (line_refusal k text) (suc above) 0))
+    after_row (line_refusal k text) (suc above) (lines_verdict ks (suc above) (behind_line text))
 
 -- The strings of a text's lines.
 unfoldable pub strings_in : (keys : List (List ℕ)) → (text : List ℕ) → List (List ℕ)
@@ -113,26 +110,20 @@ among s (t ∷ ts) = same s t || among s ts
 unfoldable pub labels_in : List ℕ → List (List ℕ)
 labels_in text = drop (length numbers) (strings_in keys text)
 
--- The first label, of the m from place k on, that repeats an earlier one: its number, counted from 1, and 0 where none
--- does.
-unfoldable pub first_repeat : (labels : List (List ℕ)) (m k : ℕ) → ℕ
-first_repeat labels zero k = 0
-first_repeat labels (suc m) k =
-    cond (among (get_or labels k []) (take k labels)) (suc k) (first_repeat labels m (suc k))
+-- The first label, of the m from place k on, that repeats an earlier one, by its place; places count from 0.
+unfoldable pub first_repeat : (labels : List (List ℕ)) (m k : ℕ) → Option ℕ
+first_repeat labels zero k = None
+first_repeat labels (suc m) k = cond (among (get_or labels k []) (take k labels)) (Some k) (first_repeat labels m (suc k))
 
--- The line of the first label that repeats an earlier one, 0 where none does.
-unfoldable pub repeated_line : List ℕ → ℕ
-repeated_line text =
-    let repeat = first_repeat (labels_in text) (length fields) 0 in cond (eqb repeat 0) 0 (length numbers + repeat)
-
--- 32 comes after all lines, and names the first that repeats a label.
-unfoldable pub after_lines : Verdict → List ℕ → Verdict
-after_lines Good text = cond (eqb (repeated_line text) 0) Good (Refused (refuse 32 (repeated_line text) 0))
-after_lines (Refused r) text = Refused r
+-- 32 comes after all lines, and names the line of the first label that repeats one.
+unfoldable pub after_lines : Verdict → (repeat : Option ℕ) → Verdict
+after_lines (Ok _) None = Ok tt
+after_lines (Ok _) (Some k) = Err (refuse 32 (length numbers + suc k) 0)
+after_lines (Err r) repeat = Err r
 
 -- The verdict on a catalogue: the first bad line decides, then equal labels.
 unfoldable pub verdict_on : List ℕ → Verdict
-verdict_on text = after_lines (lines_verdict keys 0 text) text
+verdict_on text = after_lines (lines_verdict keys 0 text) (first_repeat (labels_in text) (length fields) 0)
 
 -- Whether a list has a number.
 unfoldable pub is_in : ℕ → List ℕ → Bool

@@ -1,270 +1,198 @@
 // A catalogue of strings, line by line under fixed keys, and the verdict on it.
 #![tactic(auto)]
 
-ghost use Rattle.std.specs.Prelude.{◌≡◌, [], ◌+◌, ◌≤◌, ◌<◌, length, get_or, drop, take};
-ghost use Rattle.lists.specs.Lists.{first_place};
-ghost use Rattle.table.specs.Table.{refuse};
-ghost use Rattle.catalogue.specs.Catalogue.{key_of, numbers, fields, keys, first_line, string_refusal, line_refusal};
-ghost use Rattle.catalogue.specs.Catalogue.{lines_verdict, labels_in, same, among, repeated_line, verdict_on};
-ghost use Rattle.catalogue.specs.Steps.{lines, string_in, HoldsKey, lines_on, Ended, SpanOf};
+ghost use Rattle.std.specs.Prelude.{◌≡◌, IfSome, IfOk, IfErr, Ok, Err, nat_eq, position, [], ◌<◌, length, get_or, take};
+ghost use Rattle.text.specs.Text.{line_feed};
+ghost use Rattle.catalogue.specs.Catalogue.{numbers, fields, keys, first_line, behind_line, string_refusal, line_refusal, lines_verdict};
+ghost use Rattle.catalogue.specs.Catalogue.{labels_in, same, among, first_repeat, verdict_on};
+ghost use Rattle.catalogue.specs.Steps.{lines, string_in, lines_on};
 
-use lists::first_place;
-use ring::Slot;
-use table::{Refusal, Verdict};
-use text::key_at;
+use table::Refusal;
 
 // How many answers have a string, how many fields have a label, and how many lines that makes.
 pub const ANSWERS: usize = 20;
 
 pub const FIELDS: usize = 6;
 
-const LINES: usize = 26;
+const LINES: usize = ANSWERS + FIELDS;
 
 // The numbers of the answers that have a string, in the order of their lines.
-const NUMBERS: [u16; 20] = [
+const NUMBERS: [u16; ANSWERS] = [
     0, 1, 2, 3, 4, 5, 6, 7, 8, 9, 10, 11, 12, 20, 21, 22, 30, 31, 32, 33,
 ];
 
-// A key's bytes, and how many of the four it has.
-#[derive(Clone, Copy)]
-pub struct Key {
-    pub bytes: [u8; 4],
-    pub length: usize,
-}
-
-// Where a string of a text begins and ends.
-#[derive(Clone, Copy)]
-pub struct Span {
-    pub from: usize,
-    pub to: usize,
-}
-
-// The number of the i-th answer that has a string.
-fn number_at(i: usize) -> u16
-    requires { i < length numbers }
-    ensures { result ≡ get_or numbers i 0 }
-{
-    NUMBERS[i]
-}
-
-// The key of a letter and a number below 100.
-fn key_of(letter: u8, number: u16) -> Key
-    requires { number < 100 }
-    ensures { HoldsKey (key_of letter number) result }
-{
-    if number < 10 {
-        return Key {
-            bytes: [letter, 48 + number as u8, 61, 0],
-            length: 3,
-        };
-    }
-    Key {
-        bytes: [
-            letter,
-            48 + (number / 10) as u8,
-            48 + (number % 10) as u8,
-            61,
-        ],
-        length: 4,
-    }
-}
+// The keys in the order of their lines: one of each answer that has a string, then one of each field.
+const KEYS: [&[u8]; LINES] = [
+    b"r0=", b"r1=", b"r2=", b"r3=", b"r4=", b"r5=", b"r6=", b"r7=", b"r8=", b"r9=", b"r10=",
+    b"r11=", b"r12=", b"r20=", b"r21=", b"r22=", b"r30=", b"r31=", b"r32=", b"r33=", b"f1=",
+    b"f2=", b"f3=", b"f4=", b"f5=", b"f6=",
+];
 
 // The key of line i, counted from 0.
-fn line_key(i: usize) -> Key
+fn line_key(i: usize) -> &'static [u8]
     requires { i < lines }
-    ensures { HoldsKey (get_or keys i []) result }
+    ensures { result.now ≡ get_or keys i [] }
 {
-    if i < ANSWERS {
-        return key_of(114, number_at(i));
-    }
-    key_of(102, (i - ANSWERS + 1) as u16)
+    KEYS[i]
 }
 
-// Where the line that begins at a place ends: its line feed, or the end of the text.
-fn line_end(text: &[u8], at: usize) -> usize
-    requires { at ≤ length text.now }
-    ensures { result ≡ at + length (first_line (drop at text.now)) }
+// The place of the first line feed.
+fn first_feed(text: &[u8]) -> Option<usize>
+    ensures { result ≡ position (λ b. nat_eq b line_feed) text.now }
 {
-    let mut end = at;
-    while end < text.len() {
-        if text[end] == 10 {
-            return end;
-        }
-        end += 1;
-    }
-    end
+    text.iter().position(|b| *b == b'\n')
 }
 
-// What is wrong with a string of so many bytes: 31, or 0 where nothing is.
-fn string_refusal(bytes: usize) -> u16
+// Where the first line ends: its line feed, or the end of the text.
+fn line_end(text: &[u8]) -> usize
+    ensures { result ≡ length (first_line text.now) }
+{
+    match first_feed(text) {
+        Some(i) => i,
+        None => text.len(),
+    }
+}
+
+// What stands behind the first line.
+fn behind_line(text: &[u8]) -> &[u8]
+    ensures { result.now ≡ behind_line text.now }
+{
+    match first_feed(text) {
+        Some(i) => &text[i + 1..],
+        None => &[],
+    }
+}
+
+// What is wrong with a string of so many bytes.
+#[tactic(auto, using(std::proofs::lemmas::Bool::Decides::nat_tests), unfolding(crate::specs::Catalogue::string_refusal))]
+fn string_refusal(bytes: usize) -> Result<(), u16>
     ensures { result ≡ string_refusal bytes }
 {
-    if bytes == 0 {
-        return 31;
+    if bytes == 0 || 96 < bytes {
+        return Err(31);
     }
-    if 96 < bytes {
-        return 31;
-    }
-    0
+    Ok(())
 }
 
-// What is wrong with line i, which begins at a place: 30, 31, or 0 where nothing is.
-fn line_refusal(text: &[u8], at: usize, i: usize) -> u16
-    requires { (at ≤ length text.now) × (i < lines) }
-    ensures { result ≡ line_refusal (get_or keys i []) (drop at text.now) }
+// What is wrong with the first line of a text that is to be line i.
+fn line_refusal(text: &[u8], i: usize) -> Result<(), u16>
+    requires { i < lines }
+    ensures { result ≡ line_refusal (get_or keys i []) text.now }
 {
-    let end = line_end(text, at);
-    if end == text.len() {
-        return 30;
-    }
+    let end = line_end(text);
     let key = line_key(i);
-    let bytes = key.bytes;
-    if key_at(text, at, &bytes[..key.length]) {
-        return string_refusal(end - at - key.length);
+    if end == text.len() || !text.starts_with(key) {
+        return Err(30);
     }
-    30
-}
-
-// A refusal by number and line.
-fn refused(number: u16, line: u16) -> Verdict
-    ensures { result ≡ Verdict.Refused (refuse number line 0) }
-{
-    Verdict::Refused(Refusal {
-        number,
-        row: line,
-        slot: Slot(0),
-    })
+    string_refusal(end - key.len())
 }
 
 // The refusal of the first bad line, and of whatever stands behind the last.
-fn judge_lines(text: &[u8]) -> Verdict
+fn judge_lines(text: &[u8]) -> Result<(), Refusal>
     ensures { result ≡ lines_verdict keys 0 text.now }
 {
-    let mut at = 0;
-    let mut i = 0;
-    while i < LINES {
-        let number = line_refusal(text, at, i);
-        if number != 0 {
-            return refused(number, (i + 1) as u16);
+    let mut rest = text;
+    for i in 0..LINES {
+        if let Err(number) = line_refusal(rest, i) {
+            return Err(Refusal::of_row(number, (i + 1) as u16));
         }
-        at = line_end(text, at) + 1;
-        i += 1;
+        rest = behind_line(rest);
     }
-    if at < text.len() {
-        return refused(30, (i + 1) as u16);
+    if !rest.is_empty() {
+        return Err(Refusal::of_row(30, (LINES + 1) as u16));
     }
-    Verdict::Good
+    Ok(())
 }
 
-// Where line i begins, in a text whose lines before it are ended.
-fn line_start(text: &[u8], i: usize) -> usize
-    requires { Ended i text.now }
-    ensures { (result ≤ length text.now) × (drop result text.now ≡ lines_on i text.now) }
+// The text behind its first i lines.
+fn lines_on(text: &[u8], i: usize) -> &[u8]
+    ensures { result.now ≡ lines_on i text.now }
 {
-    let mut at = 0;
-    let mut k = 0;
-    while k < i {
-        at = line_end(text, at) + 1;
-        k += 1;
+    let mut rest = text;
+    for _ in 0..i {
+        rest = behind_line(rest);
     }
-    at
+    rest
 }
 
-// Whether two parts of a text are equal, byte by byte.
-fn same_bytes(a: &[u8], b: &[u8]) -> bool
-    ensures { result ≡ same a.now b.now }
-{
-    if a.len() != b.len() {
-        return false;
+// A text whose lines are all right.
+#[derive(Clone, Copy)]
+pub struct Lines<'a> {
+    pub text: &'a [u8],
+    ghost right: { lines_verdict keys 0 text.now ≡ Ok tt },
+}
+
+impl<'a> Lines<'a> {
+    // Judges the lines of a text.
+    fn of(text: &'a [u8]) -> Result<Lines<'a>, Refusal>
+        ensures bad { IfErr result (λ r. lines_verdict keys 0 text.now ≡ Err r) }
+        ensures good { IfOk result (λ l. l.text.now ≡ text.now) }
+    {
+        judge_lines(text)?;
+        Ok(Lines { text })
     }
-    let mut i = 0;
-    while i < a.len() {
-        if a[i] != b[i] {
-            return false;
+
+    // The string of line i.
+    pub fn string(self, i: usize) -> &'a [u8]
+        requires { i < lines }
+        ensures { result.now ≡ string_in self.entry.text.now i }
+    {
+        let line = lines_on(self.text, i);
+        &line[line_key(i).len()..line_end(line)]
+    }
+
+    // Whether label k, counted from 0, repeats an earlier one.
+    fn repeats(self, k: usize) -> bool
+        requires { k < length fields }
+        ensures { result ≡ among (get_or (labels_in self.entry.text.now) k []) (take k (labels_in self.entry.text.now)) }
+    {
+        let label = self.string(ANSWERS + k);
+        for j in 0..k {
+            if label == self.string(ANSWERS + j) {
+                return true;
+            }
         }
-        i += 1;
+        false
     }
-    true
-}
 
-// Where the string of line i begins and ends, in a text whose lines are all right.
-pub fn string_of(text: &[u8], i: usize) -> Span
-    requires { (lines_verdict keys 0 text.now ≡ Verdict.Good) × (i < lines) }
-    ensures { SpanOf text.now (string_in text.now i) result }
-{
-    let at = line_start(text, i);
-    let key = line_key(i);
-    Span {
-        from: at + key.length,
-        to: line_end(text, at),
-    }
-}
-
-// Whether the string of line i is that of line k too.
-fn same_string(text: &[u8], i: usize, k: usize) -> bool
-    requires { (lines_verdict keys 0 text.now ≡ Verdict.Good) × (i < lines) × (k < lines) }
-    ensures { result ≡ same (string_in text.now i) (string_in text.now k) }
-{
-    let a = string_of(text, i);
-    let b = string_of(text, k);
-    let a_from = a.from;
-    let a_to = a.to;
-    let b_from = b.from;
-    let b_to = b.to;
-    same_bytes(&text[a_from..a_to], &text[b_from..b_to])
-}
-
-// Whether label k, counted from 0, repeats an earlier one.
-fn repeats(text: &[u8], k: usize) -> bool
-    requires { (lines_verdict keys 0 text.now ≡ Verdict.Good) × (k < length fields) }
-    ensures { result ≡ among (get_or (labels_in text.now) k []) (take k (labels_in text.now)) }
-{
-    let mut j = 0;
-    while j < k {
-        if same_string(text, ANSWERS + k, ANSWERS + j) {
-            return true;
+    // The first label that repeats an earlier one, counted from 0.
+    fn first_repeat(self) -> Option<usize>
+        ensures first { result ≡ first_repeat (labels_in self.entry.text.now) (length fields) 0 }
+        ensures inside { IfSome result (λ k. k < length fields) }
+    {
+        for k in 0..FIELDS {
+            if self.repeats(k) {
+                return Some(k);
+            }
         }
-        j += 1;
+        None
     }
-    false
 }
 
-// The line of the first label that repeats an earlier one, 0 where none does.
-fn repeated_line(text: &[u8]) -> u16
-    requires { lines_verdict keys 0 text.now ≡ Verdict.Good }
-    ensures { result ≡ repeated_line text.now }
+// Judges a catalogue and hands on its lines: the first bad line decides, and equal labels come after all lines.
+#[tactic(auto, unfolding(crate::specs::Catalogue::verdict_on, crate::specs::Catalogue::after_lines))]
+pub fn open<'a>(text: &'a [u8]) -> Result<Lines<'a>, Refusal>
+    ensures bad { IfErr result (λ r. verdict_on text.now ≡ Err r) }
+    ensures good { IfOk result (λ l. (verdict_on text.now ≡ Ok tt) × (l.text.now ≡ text.now)) }
 {
-    let mut k = 0;
-    while k < FIELDS {
-        if repeats(text, k) {
-            return (ANSWERS + k + 1) as u16;
-        }
-        k += 1;
+    let lines = Lines::of(text)?;
+    match lines.first_repeat() {
+        Some(k) => Err(Refusal::of_row(32, (ANSWERS + k + 1) as u16)),
+        None => Ok(lines),
     }
-    0
 }
 
-// Judges a catalogue: the first bad line decides, and equal labels come after all lines.
-pub fn judge(text: &[u8]) -> Verdict
+// Judges a catalogue.
+pub fn judge(text: &[u8]) -> Result<(), Refusal>
     ensures { result ≡ verdict_on text.now }
 {
-    let lines = judge_lines(text);
-    match lines {
-        Verdict::Refused(r) => Verdict::Refused(r),
-        Verdict::Good => {
-            let line = repeated_line(text);
-            if line == 0 {
-                return Verdict::Good;
-            }
-            refused(32, line)
-        }
-    }
+    open(text)?;
+    Ok(())
 }
 
-// The place of a number among those that have a string; their count where it has none.
-pub fn place_of(number: u16) -> usize
-    ensures { result ≡ first_place number numbers }
+// The place of a number among those that have a string.
+pub fn place_of(number: u16) -> Option<usize>
+    ensures { result ≡ position (λ n. nat_eq number n) numbers }
 {
-    let numbers = NUMBERS;
-    first_place(&numbers, number)
+    NUMBERS.iter().position(|n| number == *n)
 }

@@ -1,84 +1,33 @@
--- A column of the rows that is laid out over their cells, row by row, and a list of the cells that is gathered by rows.
---     writing_none, writing_more, writing_all          at a row's first cell; one cell more; at its end
+-- Rows that are laid out over their cells, row by row, and a list of the cells that is gathered by rows.
 --     laying_none, laying_more, laying_all             at the start; one row more; at the end
 --     laying_inside, laying_room                       the next row's cells have places, in the list as it came and is
---     laying_long                                      the list keeps its length
+--     column_laid                                      a column of a list of which a part was written
+--     rows_none, rows_room, rows_more, rows_all        the same for all columns of the cells and their links to go
+--     its_length                                       a row's length, in the list of all
 --     gathering_none, gathering_more, gathering_all    at the start; one row more; at the end
 --     gathering_inside                                 the next row's last cell is one of the cells
 -- Assumes nothing.
 use mathlib.Core.Path.{◌≡◌, refl, ◌∙◌, ap, sym}
-use Prim.Native.Nat.{ℕ, zero, suc, pred, ◌+◌, ◌-◌, ◌*◌, ◌≤◌, ◌<◌}
-use native.Mathlib.Nat.{not-suc-le-zero, zero-add, suc-add}
+use Prim.Native.Nat.{ℕ, zero, suc, pred, ◌+◌, ◌-◌, ◌≤◌, ◌<◌}
+use native.Mathlib.Nat.{not-suc-le-zero}
 use native.Mathlib.Numerals.{add-one}
 use native.Mathlib.Omega.{arith}
-use mathlib.Core.List.{List, [], ◌∷◌, ◌++◌, append-nil, append_assoc}
-use lib.ListN.{length, get_or, take, drop, set, length-set, length-append, length-drop, take-append-drop}
-use lib.ListN.{drop_of_length-le}
-use borrow.Rule.Slice.PartMut.{Post-is}
-use lib.Seq.{length-take-le, take-length, take_at, drop-append-add, drop-drop}
+use mathlib.Core.List.{List, [], ◌∷◌, ◌++◌, map, append-nil, append_assoc}
+use borrow.Rule.Slice.PartMut.{put_mid, Post-is}
+use lib.ListN.{length, get_or, take, drop, set, replicate, length-append, length-drop, length-map, drop_of_length-le}
+use lib.Seq.{take-length, take_at, drop-append-add, drop-drop}
+use Rattle.std.proofs.lemmas.List.{map-append, take-map, drop-map, get_or-map}
 use Rattle.lists.specs.Lists.{build, total}
-use Rattle.lists.proofs.Build.{build_ext}
+use Rattle.lists.proofs.Build.{build_ext, build_const, map-build}
 use Rattle.lists.proofs.Filling.{filled, filled_more, filled_whole}
-use Rattle.cells.specs.Rows.{per_cell}
-use Rattle.cells.specs.Cells.{of_last_cells}
-use Rattle.cells.specs.Steps.{falling, written, AboveZero}
+use Rattle.table.specs.declared.Row.{Row}
+use Rattle.table.specs.Table.{lengths, destinations, dues, cells_in}
+use Rattle.slack.specs.declared.Cell.{Cell}
+use Rattle.slack.specs.Slack.{dsts_in, dues_in, owners_in}
+use Rattle.cells.specs.Rows.{per_cell, laid_out, owners_of}
+use Rattle.cells.specs.Cells.{dues_of, of_last_cells}
+use Rattle.cells.specs.Steps.{cell_of, Open, Laid, AboveZero}
 use Rattle.cells.proofs.Seats.{first_cell, first_more, first_all, per_cell_length, row_inside}
-
--- ---- the cells of one row
-
--- The entries from `first` up to c are written by a rule, and all others are as they were.
-pub record Writing (f : ℕ → ℕ) (before : List ℕ) (first c : ℕ) (cells : List ℕ) : Type 0 where
-  pub from : first ≤ c
-  pub inside : c ≤ length before
-  pub long : length cells ≡ length before
-  pub done : cells ≡ take first before ++ filled f (drop first before) (c - first)
-
-pub writing_none : (f : ℕ → ℕ) (before : List ℕ) (first : ℕ) → first ≤ length before
-    → Writing f before first first before
-writing_none f before first inside =
-    let none : first - first ≡ 0 = omega arith in
-    record { from = omega arith; inside = inside; long = refl; done = rw (none, take-append-drop first before) }
-
--- a store behind the seam of two lists
-set_append_add : (xs ys : List ℕ) (k v : ℕ) → set (xs ++ ys) (length xs + k) v ≡ xs ++ set ys k v
-set_append_add [] ys k v = ap (λ n. set ys n v) (zero-add k)
-set_append_add (x ∷ xs) ys k v =
-    ap (λ n. set (x ∷ (xs ++ ys)) n v) (suc-add (length xs) k) ∙ ap (λ r. x ∷ r) (set_append_add xs ys k v)
-
-module _ {f : ℕ → ℕ} {before : List ℕ} {first c : ℕ} {cells : List ℕ} (h : Writing f before first c cells) where
-  pub writing_more : c < length before → (v : ℕ) → v ≡ f (c - first) → Writing f before first (c + 1) (set cells c v)
-  writing_more l v is =
-      record {
-        from = omega (arith, h.from);
-        inside = omega arith;
-        long = simp length-set h.long;
-        done = rw (h.done, is) stored;
-      }
-    where
-      front : List ℕ
-      front = take first before
-
-      rest : List ℕ
-      rest = drop first before
-
-      place : c ≡ length front + (c - first)
-      place = omega (arith, h.from, length-take-le first before (omega (arith, h.from)))
-
-      more : c - first + 1 ≡ c + 1 - first
-      more = omega (arith, h.from)
-
-      stored : set (front ++ filled f rest (c - first)) c (f (c - first)) ≡ front ++ filled f rest (c + 1 - first)
-      stored =
-          ap (λ n. set (front ++ filled f rest (c - first)) n (f (c - first))) place
-          ∙ set_append_add front (filled f rest (c - first)) (c - first) (f (c - first))
-          ∙ ap (λ r. front ++ r) (filled_more f rest (c - first) (omega (arith, h.from, length-drop first before)))
-          ∙ ap (λ n. front ++ filled f rest n) more
-
-  pub writing_all : {next : ℕ} → c ≡ next → cells ≡ written first next (build (next - first) f) before
-  unfolding written
-  writing_all e =
-      h.done ∙ ap (λ r. take first before ++ (build (c - first) f ++ r)) (Post-is first c before h.from)
-      ∙ ap (λ n. written first n (build (n - first) f) before) e
 
 -- ---- a column laid out
 
@@ -124,11 +73,10 @@ module _ {f : ℕ → ℕ → ℕ} {len before : List ℕ} {i first : ℕ} {cell
       omega (arith, long, front_long, length-drop (first_cell len i) before, h.at, laying_inside l)
 
   -- The cells of the next row are written.
-  pub laying_more : (l : i < length len) (x step : ℕ) (after : List ℕ)
-      → after ≡ written first next (falling (next - first) x step) cells
-      → ((j : ℕ) → x - step * (get_or len i 0 - suc j) ≡ f i j) → Laying f len before (i + 1) next after
-  unfolding falling written
-  laying_more l x step after is each =
+  pub laying_more : (l : i < length len) (after : List ℕ)
+      → after ≡ take first cells ++ (build (get_or len i 0) (f i) ++ drop next cells)
+      → Laying f len before (i + 1) next after
+  laying_more l after is =
       record {
         known = omega arith;
         room = h.room;
@@ -139,11 +87,6 @@ module _ {f : ℕ → ℕ → ℕ} {len before : List ℕ} {i first : ℕ} {cell
       row : List ℕ
       row = build (get_or len i 0) (f i)
 
-      cells_are : falling (next - first) x step ≡ row
-      cells_are =
-          let n : next - first ≡ get_or len i 0 = omega arith in
-          rw n (build_ext (get_or len i 0) (λ j. x - step * (get_or len i 0 - suc j)) (f i) (λ j in_row. each j))
-
       behind : drop next cells ≡ drop next before
       behind =
           ap (drop next) (h.laid ∙ ap (λ k. front ++ drop k before) (sym h.at))
@@ -153,8 +96,8 @@ module _ {f : ℕ → ℕ → ℕ} {len before : List ℕ} {i first : ℕ} {cell
       in_front : take first cells ≡ front
       in_front = ap (take first) h.laid ∙ take_at front (drop (first_cell len i) before) first front_long
 
-      joined : written first next (falling (next - first) x step) cells ≡ (front ++ row) ++ drop next before
-      joined = rw (cells_are, in_front, behind) (sym (append_assoc front row (drop next before)))
+      joined : take first cells ++ (row ++ drop next cells) ≡ (front ++ row) ++ drop next before
+      joined = rw (in_front, behind) (sym (append_assoc front row (drop next before)))
 
   pub laying_all : length len ≤ i → cells ≡ per_cell len f
   laying_all l =
@@ -163,70 +106,182 @@ module _ {f : ℕ → ℕ → ℕ} {len before : List ℕ} {i first : ℕ} {cell
       h.laid ∙ ap (λ k. per_cell (take k len) f ++ drop (first_cell len k) before) e
       ∙ rw (take-length len, first_all len, none, append-nil)
 
-  pub laying_long : length len ≤ i → length cells ≡ length before
-  laying_long l = ap length (laying_all l) ∙ per_cell_length len f ∙ sym h.room
+-- A list of which a part was written.
+put_is : {A : Type 0} (a k : ℕ) (xs ys : List A) → put_mid a (a + k - a) xs ys ≡ take a xs ++ (ys ++ drop (a + k) xs)
+put_is a k xs ys = ap (λ r. take a xs ++ (ys ++ r)) (Post-is a (a + k) xs (omega arith))
+
+-- A column of such a list.
+pub column_laid : {A : Type 0} (col : A → ℕ) (xs part : List A) (first next n : ℕ) (g : ℕ → A) (f : ℕ → ℕ)
+    → part ≡ build n g → ((j : ℕ) → j < n → col (g j) ≡ f j)
+    → map col (take first xs ++ (part ++ drop next xs)) ≡ take first (map col xs) ++ (build n f ++ drop next (map col xs))
+column_laid col xs part first next n g f is same =
+    rw (
+      is,
+      map-append col (take first xs) (build n g ++ drop next xs),
+      map-append col (build n g) (drop next xs),
+      map-build n col g,
+      build_ext n (λ j. col (g j)) f same,
+      take-map col first xs,
+      drop-map col next xs,
+    )
+
+-- A row's length, in the list of all.
+pub its_length : (rows : List Row) (i : ℕ) (d : Row) → i < length rows → get_or (lengths rows) i 0 ≡ (get_or rows i d).len
+unfolding lengths
+its_length rows i d l = get_or-map (λ (r : Row). r.len) rows i d 0 l
+
+pub lengths_long : (rows : List Row) → length (lengths rows) ≡ length rows
+unfolding lengths
+lengths_long rows = length-map rows (λ (r : Row). r.len)
+
+-- ---- rows laid out
+
+-- The cells of the first i rows are written in each column, and their links to go.
+pub record LayingRows (rows : List Row) (links : List ℕ) (cells₀ : List Cell) (left₀ : List ℕ) (i first : ℕ)
+    (cells : List Cell) (left : List ℕ) : Type 0 where
+  pub dst_laid : Laying (λ i j. get_or (destinations rows) i 0) (lengths rows) (dsts_in cells₀) i first (dsts_in cells)
+  pub due_laid : Laying (λ i j. get_or (dues rows) i 0 - (get_or (lengths rows) i 0 - suc j)) (lengths rows) (dues_in cells₀) i first
+      (dues_in cells)
+  pub owner_laid : Laying (λ i j. suc i) (lengths rows) (owners_in cells₀) i first (owners_in cells)
+  pub left_laid : Laying (λ i j. get_or links i 0) (lengths rows) left₀ i first left
+
+pub rows_none : {rows : List Row} {links : List ℕ} {cells : List Cell} {left : List ℕ} → Open rows links cells left
+    → LayingRows rows links cells left 0 0 cells left
+unfolding cells_in dsts_in dues_in owners_in
+rows_none {rows} {links} {cells} {left} o =
+    record {
+      dst_laid = laying_none _ _ _ (length-map cells _ ∙ o.cells_room);
+      due_laid = laying_none _ _ _ (length-map cells _ ∙ o.cells_room);
+      owner_laid = laying_none _ _ _ (length-map cells _ ∙ o.cells_room);
+      left_laid = laying_none _ _ _ o.left_room;
+    }
+
+module _ {rows : List Row} {links : List ℕ} {cells₀ : List Cell} {left₀ : List ℕ} {i first : ℕ} {cells : List Cell} {left : List ℕ}
+    (h : LayingRows rows links cells₀ left₀ i first cells left) where
+  -- The next row's cells have places.
+  pub rows_room : (d : Row) → i < length rows
+      → (first + (get_or rows i d).len ≤ length cells) × (first + (get_or rows i d).len ≤ length left)
+  unfolding dsts_in
+  rows_room d l =
+      let inside : i < length (lengths rows) = omega (arith, lengths_long rows) in
+      let long = its_length rows i d l in (
+        omega (arith, laying_room h.dst_laid inside, length-map cells (λ (c : Cell). c.dst.0), long),
+        omega (arith, laying_room h.left_laid inside, long),
+      )
+
+  -- The next row's cells are written.
+  pub rows_more : (r : Row) → (l : i < length rows) → r ≡ get_or rows i r
+      → (part : List Cell) → part ≡ build r.len (cell_of r (i + 1))
+      → (to_go : List ℕ) → to_go ≡ replicate r.len (get_or links i 0)
+      → LayingRows rows links cells₀ left₀ (i + 1) (first + r.len)
+      (put_mid first (first + r.len - first) cells part) (put_mid first (first + r.len - first) left to_go)
+  unfolding dsts_in dues_in owners_in destinations dues
+  rows_more r l is part written to_go all_same =
+      rw (put_is first r.len cells part, put_is first r.len left to_go)
+      (record {
+        dst_laid = rw long at (laying_more h.dst_laid inside _ (column (λ c. c.dst.0) (λ j. get_or (destinations rows) i 0) (λ j. dst_is)));
+        due_laid = rw long at (laying_more h.due_laid inside _ (column (λ c. c.due.0) (λ j. get_or (dues rows) i 0 - (get_or (lengths rows) i 0 - suc j)) (λ j. rw (due_is, long))));
+        owner_laid = rw long at (laying_more h.owner_laid inside _ (column (λ c. c.row) (λ j. suc i) (λ j. add-one i)));
+        left_laid = rw long at (laying_more h.left_laid inside _ there);
+      })
+    where
+      inside : i < length (lengths rows)
+      inside = omega (arith, lengths_long rows)
+
+      long : get_or (lengths rows) i 0 ≡ r.len
+      long = its_length rows i r l ∙ ap (λ (x : Row). x.len) (sym is)
+
+      column : (col : Cell → ℕ) (f : ℕ → ℕ) → ((j : ℕ) → col (cell_of r (i + 1) j) ≡ f j)
+          → map col (take first cells ++ (part ++ drop (first + r.len) cells))
+          ≡ take first (map col cells) ++ (build (get_or (lengths rows) i 0) f ++ drop (first + get_or (lengths rows) i 0) (map col cells))
+      column col f same =
+          rw long (column_laid col cells part first (first + r.len) r.len (cell_of r (i + 1)) f written (λ j m. same j))
+
+      there : take first left ++ (to_go ++ drop (first + r.len) left)
+          ≡ take first left ++ (build (get_or (lengths rows) i 0) (λ j. get_or links i 0) ++ drop (first + get_or (lengths rows) i 0) left)
+      there = rw (long, all_same, build_const r.len (get_or links i 0))
+
+      dst_is : r.dst ≡ get_or (map (λ (x : Row). x.dst) rows) i 0
+      dst_is = ap (λ (x : Row). x.dst) is ∙ sym (get_or-map (λ (x : Row). x.dst) rows i r 0 l)
+
+      due_is : get_or (map (λ (x : Row). x.due) rows) i 0 ≡ r.due
+      due_is = get_or-map (λ (x : Row). x.due) rows i r 0 l ∙ ap (λ (x : Row). x.due) (sym is)
+
+  pub rows_all : length rows ≤ i → Laid rows links cells left
+  unfolding laid_out dues_of owners_of
+  rows_all l =
+      let end : length (lengths rows) ≤ i = omega (arith, lengths_long rows) in
+      record {
+        dst_is = laying_all h.dst_laid end;
+        due_is = laying_all h.due_laid end;
+        owner_is = laying_all h.owner_laid end;
+        left_is = laying_all h.left_laid end;
+      }
 
 -- ---- a list gathered
 
 -- What the list says of row i's last cell.
-abbrev last_of : (len cells : List ℕ) → ℕ → ℕ
-last_of len cells i = get_or cells (pred (total (take (suc i) len))) 0
+abbrev last_of : (rows : List Row) (stamps : List ℕ) → ℕ → ℕ
+last_of rows stamps i = get_or stamps (pred (total (take (suc i) (lengths rows)))) 0
 
 -- The first i rows have what is said of their last cells.
-pub record Gathering (len cells before : List ℕ) (i next : ℕ) (rows : List ℕ) : Type 0 where
-  pub some : AboveZero len
-  pub each : length cells ≡ total len
-  pub room : length before ≡ length len
-  pub known : i ≤ length len
-  pub long : length rows ≡ length before
-  pub at : next ≡ first_cell len i
-  pub gathered : rows ≡ filled (last_of len cells) before i
+pub record Gathering (rows : List Row) (stamps before : List ℕ) (i next : ℕ) (arrivals : List ℕ) : Type 0 where
+  pub some : AboveZero (lengths rows)
+  pub each : length stamps ≡ cells_in rows
+  pub room : length before ≡ length rows
+  pub known : i ≤ length rows
+  pub at : next ≡ first_cell (lengths rows) i
+  pub gathered : arrivals ≡ filled (last_of rows stamps) before i
 
-pub gathering_none : (len cells before : List ℕ) → AboveZero len → length cells ≡ total len
-    → length before ≡ length len → Gathering len cells before 0 0 before
+pub gathering_none : (rows : List Row) (stamps before : List ℕ) → AboveZero (lengths rows) → length stamps ≡ cells_in rows
+    → length before ≡ length rows → Gathering rows stamps before 0 0 before
 unfolding first_cell total
-gathering_none len cells before some each room =
-    record {
-      some = some;
-      each = each;
-      room = room;
-      known = omega arith;
-      long = refl;
-      at = refl;
-      gathered = refl;
-    }
+gathering_none rows stamps before some each room =
+    record { some = some; each = each; room = room; known = omega arith; at = refl; gathered = refl }
 
-module _ {len cells before : List ℕ} {i next : ℕ} {rows : List ℕ}
-    (h : Gathering len cells before i next rows) where
-  pub gathering_inside : i < length len → (0 < next + get_or len i 0) × (next + get_or len i 0 ≤ length cells)
-  gathering_inside l = omega (arith, h.some i l, h.at, h.each, row_inside len i l)
+module _ {rows : List Row} {stamps before : List ℕ} {i next : ℕ} {arrivals : List ℕ}
+    (h : Gathering rows stamps before i next arrivals) (d : Row) (l : i < length rows) where
+  -- where the next row ends
+  abbrev end : ℕ
+  end = next + (get_or rows i d).len
+
+  pub gathering_inside : (0 < end) × (end ≤ length stamps)
+  unfolding cells_in
+  gathering_inside =
+      omega (
+        arith,
+        h.some i (omega (arith, lengths_long rows)),
+        h.at,
+        h.each,
+        its_length rows i d l,
+        row_inside (lengths rows) i (omega (arith, lengths_long rows)),
+      )
+
+  ends : first_cell (lengths rows) (i + 1) ≡ end
+  ends = omega (arith, first_more (lengths rows) i (omega (arith, lengths_long rows)), its_length rows i d l, h.at)
 
   -- The last cell of row i is the one before the next row's first.
-  last_there : i < length len → last_of len cells i ≡ get_or cells (next + get_or len i 0 - 1) 0
+  last_there : last_of rows stamps i ≡ get_or stamps (end - 1) 0
   unfolding first_cell
-  last_there l =
-      let e : total (take (suc i) len) ≡ next + get_or len i 0
-      = rw add-one at (first_more len i l) ∙ ap (λ k. k + get_or len i 0) (sym h.at) in
-      let p : pred (next + get_or len i 0) ≡ next + get_or len i 0 - 1 = omega arith in
-      rw (e, p)
+  last_there =
+      let p : pred end ≡ end - 1 = omega arith in
+      rw (rw add-one at ends, p)
 
-  pub gathering_more : (l : i < length len)
-      → Gathering len cells before (i + 1) (next + get_or len i 0) (set rows i (get_or cells (next + get_or len i 0 - 1) 0))
-  gathering_more l =
+  pub gathering_more : Gathering rows stamps before (i + 1) end (set arrivals i (get_or stamps (end - 1) 0))
+  gathering_more =
       record {
         some = h.some;
         each = h.each;
         room = h.room;
         known = omega arith;
-        long = simp length-set h.long;
-        at = omega (arith, h.at, first_more len i l);
+        at = sym ends;
         gathered =
-            rw (sym (last_there l), h.gathered)
-            (filled_more (last_of len cells) before i (omega (arith, h.room)));
+            rw (sym last_there, h.gathered) (filled_more (last_of rows stamps) before i (omega (arith, h.room)));
       }
 
-  pub gathering_all : length before ≤ i → rows ≡ of_last_cells len cells
-  unfolding of_last_cells
-  gathering_all l =
-      h.gathered
-      ∙ filled_whole (last_of len cells) before i (length len) (omega (arith, h.known, h.room)) h.room
+pub gathering_all : {rows : List Row} {stamps before : List ℕ} {i next : ℕ} {arrivals : List ℕ}
+    → Gathering rows stamps before i next arrivals → length rows ≤ i → arrivals ≡ of_last_cells (lengths rows) stamps
+unfolding of_last_cells
+gathering_all {rows} {stamps} {before} {i} h l =
+    h.gathered
+    ∙ filled_whole (last_of rows stamps) before i (length (lengths rows)) (omega (arith, h.known, lengths_long rows)) (h.room ∙ sym (lengths_long rows))

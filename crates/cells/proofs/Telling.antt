@@ -1,47 +1,35 @@
 -- A plan of cells, told in rows.
---     numbered, map_is                 the row of one cell, and of each that a plan names
---     told, untouched                  the row of an entry's cell, where only entries before it are written
+--     numbered                         the row of one cell
 --     told_long, told_joined           a plan told in rows is as long, and is told part by part
 --     told_idle                        idle links stay idle
 --     cell_named                       only no cell at all is told as row 0
 --     slot_at_most, plan_at_most       a slot or a plan of the rule names no cell that there is not, as telling it asks
 --     stop_cell                        nor does a run end with one
 -- Assumes nothing.
-use mathlib.Core.Path.{◌≡◌, refl, ◌∙◌, ap, sym}
+use mathlib.Core.Path.{◌≡◌, refl, ap, sym}
 use Prim.Native.Nat.{ℕ, zero, suc, ◌+◌, ◌-◌, ◌≤◌, ◌<◌}
 use native.Mathlib.Nat.{not-suc-le-zero}
 use native.Mathlib.Omega.{arith}
 use native.Mathlib.Decide.{dec_lt}
-use mathlib.Core.List.{List, [], ◌∷◌, ◌++◌, map}
+use mathlib.Core.List.{List, [], ◌∷◌, ◌++◌}
 use lib.ListN.{length, get_or, replicate, length-map, length-append, get_or-append}
 use lib.Seq.{get_or-append-add}
-use Rattle.lists.specs.Lists.{build}
-use Rattle.lists.proofs.Build.{build_of, map-build}
-use Rattle.lists.proofs.Filling.{filled, filled_past}
-use Rattle.slack.specs.Slack.{Traffic, pick, slot_of, state_at, plan_of, late_row, stop_of}
+use Rattle.std.proofs.lemmas.List.{get_or-map}
+use Rattle.slack.specs.declared.Cell.{Cell}
+use Rattle.slack.specs.Slack.{owners_in, Traffic, pick, slot_of, state_at, plan_of, late_row, stop_of}
 use Rattle.slack.proofs.Rule.{pick_least, slot_length, slot_entry, state_length, late_lowest}
 use Rattle.slack.proofs.Ending.{stop_first}
 use Rattle.cells.specs.Cells.{owner_of, told_by}
 use Rattle.cells.specs.Steps.{AtMost, AboveZero}
 
 -- The row of a cell by its number.
-pub numbered : (owner : List ℕ) (cell : ℕ) → 0 < cell → get_or owner (cell - 1) 0 ≡ owner_of owner cell
-unfolding owner_of
-numbered owner zero l = absurd (not-suc-le-zero l)
-numbered owner (suc c) l = let e : suc c - 1 ≡ c = omega arith in rw e
-
--- A rule applied to each entry.
-pub map_is : (f : ℕ → ℕ) (xs : List ℕ) → build (length xs) (λ i. f (get_or xs i 0)) ≡ map f xs
-map_is f xs = sym (map-build (length xs) f (λ i. get_or xs i 0)) ∙ ap (map f) (build_of (length xs) 0 xs refl)
-
--- The row of the cell that an entry names.
-abbrev pub told : (owner plan : List ℕ) → ℕ → ℕ
-told owner plan k = owner_of owner (get_or plan k 0)
-
--- Where the first k entries are written, entry k is still the one that came.
-pub untouched : (f : ℕ → ℕ) (before plan : List ℕ) (k : ℕ) → plan ≡ filled f before k
-    → get_or plan k 0 ≡ get_or before k 0
-untouched f before plan k e = ap (λ l. get_or l k 0) e ∙ filled_past f before k k 0 (omega arith)
+pub numbered : (cells : List Cell) (cell : ℕ) (none : Cell) → 0 < cell → cell ≤ length cells
+    → (get_or cells (cell - 1) none).row ≡ owner_of (owners_in cells) cell
+unfolding owner_of owners_in
+numbered cells zero none l m = absurd (not-suc-le-zero l)
+numbered cells (suc c) none l m =
+    let e : suc c - 1 ≡ c = omega arith in
+    rw e (sym (get_or-map (λ (x : Cell). x.row) cells c none 0 (omega arith)))
 
 module _ (owner : List ℕ) where
   pub told_long : (plan : List ℕ) → length (told_by owner plan) ≡ length plan

@@ -1,6 +1,10 @@
 -- What single steps of the code ask and do. Nothing here has to be believed.
-use Rattle.std.specs.Prelude.{ℕ, suc, ◌-◌, ◌*◌, ◌≤◌, ◌<◌, ◌≡◌, cond, List, ◌++◌, eqb, length, get_or, take, drop}
+use Rattle.std.specs.Prelude.{ℕ, suc, ◌-◌, ◌≤◌, ◌<◌, ◌≡◌, cond, List, eqb, length, get_or}
 use Rattle.lists.specs.Lists.{build, total}
+use Rattle.table.specs.declared.Row.{Row}
+use Rattle.table.specs.Table.{lengths, destinations, dues, cells_in}
+use Rattle.slack.specs.declared.Cell.{Cell}
+use Rattle.slack.specs.Slack.{dsts_in, dues_in, owners_in}
 use Rattle.cells.specs.Rows.{Freight, owners_of, laid_out}
 use Rattle.cells.specs.Cells.{dues_of}
 
@@ -10,31 +14,28 @@ pub record Laden (F : Freight) : Type 0 where
   pub dst_inside : (i : ℕ) → i < length F.len → get_or F.dst i 0 < F.nodes
   pub links_inside : (i : ℕ) → i < length F.len → get_or F.links i 0 ≤ F.nodes
 
--- n numbers of which the last is given and each one before it is `step` less, 0 where that would be below 0.
-unfoldable pub falling : (n last step : ℕ) → List ℕ
-falling n last step = build n (λ j. last - step * (n - suc j))
+-- A place for a cell.
+abbrev pub no_cell : Cell
+no_cell = record { dst = record { 0 = 0 }; due = record { 0 = 0 }; row = 0 }
 
--- A list with a part in the place of its entries from `first` up to `next`.
-unfoldable pub written : (first next : ℕ) → (part cells : List ℕ) → List ℕ
-written first next part cells = take first cells ++ (part ++ drop next cells)
+-- Cell j of a row with that number, counted from 0.
+abbrev pub cell_of : Row → (number j : ℕ) → Cell
+cell_of r number j =
+    record { dst = record { 0 = r.dst }; due = record { 0 = r.due - (r.len - suc j) }; row = number }
 
--- There is a place for each cell in each of four lists, and an entry for each row in each of three columns.
-pub record Open (len dst due links cell-dst cell-due owner left : List ℕ) : Type 0 where
-  pub rows : length len ≤ 65535
-  pub dst_each : length dst ≡ length len
-  pub due_each : length due ≡ length len
-  pub links_each : length links ≡ length len
-  pub dst_room : length cell-dst ≡ total len
-  pub due_room : length cell-due ≡ total len
-  pub owner_room : length owner ≡ total len
-  pub left_room : length left ≡ total len
+-- There is a place for each cell in both lists, and an entry for each row.
+pub record Open (rows : List Row) (links : List ℕ) (cells : List Cell) (left : List ℕ) : Type 0 where
+  pub few : length rows ≤ 65535
+  pub links_each : length links ≡ length rows
+  pub cells_room : length cells ≡ cells_in rows
+  pub left_room : length left ≡ cells_in rows
 
--- The four lists speak of the cells of the rows.
-pub record Laid (len dst due links cell-dst cell-due owner left : List ℕ) : Type 0 where
-  pub dst_is : cell-dst ≡ laid_out len dst
-  pub due_is : cell-due ≡ dues_of len due
-  pub owner_is : owner ≡ owners_of len
-  pub left_is : left ≡ laid_out len links
+-- The cells and their links to go are those of the rows.
+pub record Laid (rows : List Row) (links : List ℕ) (cells : List Cell) (left : List ℕ) : Type 0 where
+  pub dst_is : dsts_in cells ≡ laid_out (lengths rows) (destinations rows)
+  pub due_is : dues_in cells ≡ dues_of (lengths rows) (dues rows)
+  pub owner_is : owners_in cells ≡ owners_of (lengths rows)
+  pub left_is : left ≡ laid_out (lengths rows) links
 
 -- The looks of a run that ends at instant t, from what it leaves: a delivered cell was looked at as often as its stamp
 -- says, and one that is not at every instant up to and with t.

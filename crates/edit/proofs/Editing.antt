@@ -14,8 +14,7 @@ use Prim.Native.Nat.{ℕ, suc, ◌+◌, ◌-◌, ◌*◌, ◌≤◌, ◌<◌, mi
 use native.Mathlib.Omega.{arith}
 use mathlib.Core.Bool.{Bool, true, false, cond}
 use mathlib.Core.List.{List, [], ◌∷◌, ◌++◌}
-use borrow.Author.Tests.{eqb-true}
-use lib.Dec.{eqb}
+use Rattle.std.proofs.Common.{Result, Ok, Err, is_ok}
 use lib.ListN.{length, get_or, take, drop, replicate}
 use lib.ListN.{length-append, length-drop, length-replicate, replicate-append-replicate}
 use lib.Seq.{split_at, drop_at, drop-drop}
@@ -30,7 +29,7 @@ use Rattle.area.proofs.Loads.{counted, load_between, load_more, load_few}
 use Rattle.area.proofs.GoodRows.{AllGood, cells_few}
 use Rattle.edit_judge.specs.Judge.{Edit, Add, Change, Remove, refusal_of}
 use Rattle.edit_judge.proofs.Refusals.{Fits, edit_fits}
-use Rattle.edit_store.specs.Store.{rows_after, step_by, step_for, load_after, behind_after, edited}
+use Rattle.edit_store.specs.Store.{rows_after, raised, lowered, step_for, load_after, behind_after, edited}
 use Rattle.edit.specs.Edit.{edit_refusal, area_after, rows_by}
 use Rattle.edit.proofs.RowsAfter.{count_after, rows_after_long, few_after, good_after}
 
@@ -55,8 +54,8 @@ module _ (n p : ℕ) (rows : List Row) (k : ℕ) (first : 0 < k) (last : k ≤ l
 
 -- ---- one count
 -- A row counted in, where the count doesn't come past its end.
-pub step_in : (n : ℕ) (r : Row) (p x : ℕ) → counted n r p + x ≤ 65535 → step_for true n r p x ≡ counted n r p + x
-unfolding step_for step_by
+pub step_in : (n : ℕ) (r : Row) (p x : ℕ) → counted n r p + x ≤ 65535 → step_for (raised r.len) n r p x ≡ counted n r p + x
+unfolding step_for
 step_in n r p x = go (crosses n r p)
   where
     go : (b : Bool)
@@ -66,8 +65,8 @@ step_in n r p x = go (crosses n r p)
     go false h = omega arith
 
 -- A row counted out that was counted in.
-pub step_out : (n : ℕ) (r : Row) (p x : ℕ) → step_for false n r p (counted n r p + x) ≡ x
-unfolding step_for step_by
+pub step_out : (n : ℕ) (r : Row) (p x : ℕ) → step_for (lowered r.len) n r p (counted n r p + x) ≡ x
+unfolding step_for
 step_out n r p x = go (crosses n r p)
   where
     go : (b : Bool) → cond b (cond b r.len 0 + x - r.len) (cond b r.len 0 + x) ≡ x
@@ -118,7 +117,7 @@ module _ (n : ℕ) (rows : List Row) (few : length rows ≤ most_rows) (good : A
       → k ≤ length rows
       → (p : ℕ)
       → p < most_links
-      → step_for false (nodes_in s) (row_in s (k - 1)) p (load_in s p) ≡ load n (rows_after rows (Remove k)) p
+      → step_for (lowered (row_in s (k - 1)).len) (nodes_in s) (row_in s (k - 1)) p (load_in s p) ≡ load n (rows_after rows (Remove k)) p
   counted_out k first last p l =
       let old = row_in_area n rows (k - 1) (omega arith) in
       rw (nodes_in_area n rows, old, load_in_area n rows p l, load_fewer n p rows k first last)
@@ -172,7 +171,7 @@ module _ (n : ℕ) (rows : List Row) (few : length rows ≤ most_rows) (good : A
 
 -- The rows after an edit: a refused one leaves them.
 abbrev pub rows_next : ℕ → List Row → Edit → List Row
-rows_next n rows e = cond (eqb (refusal_of n (length rows) e) 0) (rows_after rows e) rows
+rows_next n rows e = cond (is_ok (refusal_of n (length rows) e)) (rows_after rows e) rows
 
 -- Any edit of the area of a table makes the area of the rows that it leaves.
 pub area_after_lem : (n : ℕ) (rows : List Row)
@@ -181,26 +180,23 @@ pub area_after_lem : (n : ℕ) (rows : List Row)
     → (e : Edit)
     → area_after (area_of n rows) e ≡ area_of n (rows_next n rows e)
 unfolding area_after
-area_after_lem n rows few good e = rw (nodes_in_area n rows, count_in_area n rows) (go (eqb why 0) refl)
+area_after_lem n rows few good e = rw (nodes_in_area n rows, count_in_area n rows) (go (refusal_of n (length rows) e) refl)
   where
-    why : ℕ
-    why = refusal_of n (length rows) e
-
-    go : (b : Bool)
-        → eqb why 0 ≡ b
-        → cond b (edited (area_of n rows) e) (area_of n rows) ≡ area_of n (cond b (rows_after rows e) rows)
-    go true f = edited_area n rows few good e (edit_fits n (length rows) e (eqb-true why 0 f)).1
-    go false f = refl
+    go : (v : Result Unit ℕ)
+        → refusal_of n (length rows) e ≡ v
+        → cond (is_ok v) (edited (area_of n rows) e) (area_of n rows) ≡ area_of n (cond (is_ok v) (rows_after rows e) rows)
+    go (Ok _) f = edited_area n rows few good e (edit_fits n (length rows) e f).1
+    go (Err _) f = refl
 
 -- What every good edit keeps, one edit keeps, refused or not, and so do any edits.
 module _ (n : ℕ) (P : List Row → Type 0)
     (one : (rows : List Row) (e : Edit) → P rows → Fits n (length rows) e → P (rows_after rows e)) where
   pub keeps_next : (rows : List Row) (e : Edit) → P rows → P (rows_next n rows e)
-  keeps_next rows e h = go (eqb (refusal_of n (length rows) e) 0) refl
+  keeps_next rows e h = go (refusal_of n (length rows) e) refl
     where
-      go : (b : Bool) → eqb (refusal_of n (length rows) e) 0 ≡ b → P (cond b (rows_after rows e) rows)
-      go true f = one rows e h (edit_fits n (length rows) e (eqb-true (refusal_of n (length rows) e) 0 f)).1
-      go false f = h
+      go : (v : Result Unit ℕ) → refusal_of n (length rows) e ≡ v → P (cond (is_ok v) (rows_after rows e) rows)
+      go (Ok _) f = one rows e h (edit_fits n (length rows) e f).1
+      go (Err _) f = h
 
   pub keeps : (es : List Edit) (rows : List Row) → P rows → P (rows_by n rows es)
   unfolding rows_by
@@ -223,7 +219,7 @@ behind_long s (Remove k) whole few h =
     omega (arith, h.0, h.1, both, length-replicate {A = ℕ} row_width 0, length-drop (row_place (count_in s)) s)
 
 -- A good edit of a whole area makes a whole area.
-edited_long : (s : List ℕ) (e : Edit) → length s ≡ room → edit_refusal s e ≡ 0 → length (edited s e) ≡ room
+edited_long : (s : List ℕ) (e : Edit) → length s ≡ room → edit_refusal s e ≡ Ok tt → length (edited s e) ≡ room
 unfolding edited
 edited_long s e whole h =
     let ok = edit_fits (nodes_in s) (count_in s) e h in
@@ -239,8 +235,8 @@ edited_long s e whole h =
 -- An edit keeps the length of a whole area, whatever stands in it.
 pub length_stays : (s : List ℕ) (e : Edit) → length s ≡ room → length (area_after s e) ≡ room
 unfolding area_after
-length_stays s e whole = go (eqb (edit_refusal s e) 0) refl
+length_stays s e whole = go (edit_refusal s e) refl
   where
-    go : (b : Bool) → eqb (edit_refusal s e) 0 ≡ b → length (cond b (edited s e) s) ≡ room
-    go true f = edited_long s e whole (eqb-true (edit_refusal s e) 0 f)
-    go false f = whole
+    go : (v : Result Unit ℕ) → edit_refusal s e ≡ v → length (cond (is_ok v) (edited s e) s) ≡ room
+    go (Ok _) f = edited_long s e whole f
+    go (Err _) f = whole

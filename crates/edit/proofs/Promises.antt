@@ -18,18 +18,15 @@ use Prim.Native.Nat.{ℕ, ◌+◌, ◌-◌, ◌*◌, ◌≤◌, ◌<◌, min}
 use native.Mathlib.Omega.{arith}
 use mathlib.Core.Bool.{Bool, true, false, cond, ◌||◌, true≢false}
 use mathlib.Core.List.{List, [], ◌∷◌}
-use borrow.Author.Tests.{ne_eqb}
-use lib.Dec.{eqb, ltb}
+use lib.Dec.{ltb}
+use Rattle.std.proofs.Common.{Result, Ok, Err, is_ok}
 use lib.ListN.{length, get_or}
 use Rattle.lists.specs.Lists.{build, total}
 use Rattle.lists.proofs.Build.{build_ext}
 use Rattle.table.specs.declared.Row.{Row}
 use Rattle.table.specs.declared.Refusal.{Refusal}
-use Rattle.table.specs.declared.Verdict.{Verdict}
-use Rattle.table.specs.declared.Verdict.TheVariants.{Good, Refused}
-use Rattle.table.specs.Table.{most_rows, most_length, most_cells, refuse, sends_of, cells_in, judge}
+use Rattle.table.specs.Table.{most_rows, most_length, most_cells, Verdict, refuse, sends_of, cells_in, judge}
 use Rattle.table.specs.Steps.{none}
-use Rattle.table.proofs.Judging.{never_good}
 use Rattle.area.specs.Area.{most_links, crosses, load, area_of, nodes_in, count_in, load_in, row_in, rows_in}
 use Rattle.area.specs.Area.{loads_in, busiest_in}
 use Rattle.area.proofs.Areas.{load_in_laid, nodes_in_area, count_in_area, load_in_area, row_in_area, rows_in_area}
@@ -37,13 +34,14 @@ use Rattle.area.proofs.Loads.{load_more}
 use Rattle.area.proofs.GoodRows.{AllGood, judged_good}
 use Rattle.area.proofs.Ways.{loads_sum_to_sends}
 use Rattle.area.proofs.Promises.{Busiest, busiest_built}
-use Rattle.edit_judge.specs.Judge.{Edit, Add, Change, Remove, size_refusal, verdict_by}
+use Rattle.edit_judge.specs.Judge.{Edit, Add, Change, Remove, size_refusal}
 use Rattle.edit_judge.proofs.Refusals.{size_of, size_fits, Fits, edit_fits, judged_by_cells}
-use Rattle.edit_store.specs.Store.{rows_after, step_for, load_after, behind_after, edited}
+use Rattle.edit_store.specs.Store.{rows_after, raised, lowered, step_for, load_after, behind_after, edited}
 use Rattle.edit.specs.Edit.{edit_refusal, about_row, area_after, Opened, Edited, after_edits, rows_by}
 use Rattle.edit.proofs.RowsAfter.{few_after, good_after}
 use Rattle.edit.proofs.Editing.{load_fewer, load_changed, load_held, edited_area, rows_next, area_after_lem}
 use Rattle.edit.proofs.Editing.{keeps_next, keeps}
+use Rattle.edit.proofs.Outcomes.{wrong_some}
 
 -- ---- one outcome
 -- Two outcomes of opening a table that fit its promise are equal: the verdict, and every number of the area.
@@ -115,12 +113,12 @@ module _ (n : ℕ) (es : List Edit) where
 
   -- A table that could be opened is never refused with 1 to 6 or 10, however it was edited: it is well-formed, or it
   -- has more than 1,024 cells and is refused with 11.
-  pub edited_is_well_formed : size_refusal n 0 ≡ 0
-      → judge n rows ≡ cond (ltb most_cells (cells_in rows)) (Refused (refuse 11 0 0)) Good
+  pub edited_is_well_formed : size_refusal n 0 ≡ Ok tt
+      → judge n rows ≡ cond (ltb most_cells (cells_in rows)) (Err (refuse 11 0 0)) (Ok tt)
   edited_is_well_formed opened = judged_by_cells n rows (size_of n (length rows) kept.0 ∙ opened) kept.1
 
   -- Its sizes are never refused.
-  pub sizes_stay_good : size_refusal n 0 ≡ 0 → size_refusal (nodes_in s) (count_in s) ≡ 0
+  pub sizes_stay_good : size_refusal n 0 ≡ Ok tt → size_refusal (nodes_in s) (count_in s) ≡ Ok tt
   sizes_stay_good opened =
       rw (edits_make_rows, nodes_in_area n rows, count_in_area n rows) (size_of n (length rows) kept.0 ∙ opened)
 
@@ -134,7 +132,7 @@ module _ (n : ℕ) (es : List Edit) where
       ∙ build_ext n (load_in s) (load n rows) (λ p l. its_load p (omega arith))
 
   -- All its counts together are its sends: the sum of length times distance over its rows.
-  pub loads_are_sends : size_refusal n 0 ≡ 0 → total (loads_in s) ≡ sends_of n (rows_in s)
+  pub loads_are_sends : size_refusal n 0 ≡ Ok tt → total (loads_in s) ≡ sends_of n (rows_in s)
   loads_are_sends opened =
       ap total (its_loads (size_fits n 0 opened).most)
       ∙ loads_sum_to_sends n rows (judged_good n rows 0 kept.1)
@@ -142,16 +140,16 @@ module _ (n : ℕ) (es : List Edit) where
 
   -- How much one more edit changes the counts: a row counts its cells on its way and 0 elsewhere.
   -- An edit that isn't refused fits the rows edited.
-  fits_it : (e : Edit) → edit_refusal s e ≡ 0 → Fits n (length rows) e
+  fits_it : (e : Edit) → edit_refusal s e ≡ Ok tt → Fits n (length rows) e
   fits_it e h =
-      let there : edit_refusal (area_of n rows) e ≡ 0 = ap (λ (a : List ℕ). edit_refusal a e) (sym edits_make_rows) ∙ h in
+      let there : edit_refusal (area_of n rows) e ≡ Ok tt = ap (λ (a : List ℕ). edit_refusal a e) (sym edits_make_rows) ∙ h in
       (edit_fits n (length rows) e (rw (nodes_in_area n rows, count_in_area n rows) at there)).1
 
   -- After one more edit a load is that of the rows then.
   load_then : (p : ℕ)
       → p < most_links
       → (e : Edit)
-      → edit_refusal s e ≡ 0
+      → edit_refusal s e ≡ Ok tt
       → load_in (area_after s e) p ≡ load n (rows_after rows e) p
   unfolding area_after
   load_then p l e h =
@@ -167,14 +165,14 @@ module _ (n : ℕ) (es : List Edit) where
   module _ (p : ℕ) (l : p < most_links) where
     -- Adding a row raises each count on its way by exactly its length, and no other.
     pub adding_raises : (r : Row)
-        → edit_refusal s (Add r) ≡ 0
+        → edit_refusal s (Add r) ≡ Ok tt
         → load_in (area_after s (Add r)) p ≡ cond (crosses n r p) r.len 0 + load_in s p
     unfolding rows_after
     adding_raises r h = omega (arith, load_then p l (Add r) h, load_more n p rows r, its_load p l)
 
     -- Removing a row lowers each count on its way by exactly its length, and no other.
     pub removing_lowers : (k : ℕ)
-        → edit_refusal s (Remove k) ≡ 0
+        → edit_refusal s (Remove k) ≡ Ok tt
         → load_in s p ≡ cond (crosses n (row_in s (k - 1)) p) (row_in s (k - 1)).len 0 + load_in (area_after s (Remove k)) p
     unfolding Fits
     removing_lowers k h =
@@ -184,7 +182,7 @@ module _ (n : ℕ) (es : List Edit) where
 
     -- Changing a row counts it out as it was, and in as it is now.
     pub changing_moves : (k : ℕ) (r : Row)
-        → edit_refusal s (Change k r) ≡ 0
+        → edit_refusal s (Change k r) ≡ Ok tt
         → cond (crosses n (row_in s (k - 1)) p) (row_in s (k - 1)).len 0 + load_in (area_after s (Change k r)) p
         ≡ cond (crosses n r p) r.len 0 + load_in s p
     unfolding Fits
@@ -195,24 +193,18 @@ module _ (n : ℕ) (es : List Edit) where
 
 -- ---- one edit
 -- A refused edit leaves the area as it was.
-pub refused_changes_nothing : (s : List ℕ) (e : Edit) → (edit_refusal s e ≡ 0 → ⊥) → area_after s e ≡ s
+pub refused_changes_nothing : (s : List ℕ) (e : Edit) → is_ok (edit_refusal s e) ≡ false → area_after s e ≡ s
 unfolding area_after
-refused_changes_nothing s e bad = rw (ne_eqb (edit_refusal s e) 0 bad)
-
--- A verdict that refuses has a number.
-has_number : (number row : ℕ) (x : Refusal) → Refused x ≡ verdict_by number row → number ≡ 0 → ⊥
-unfolding verdict_by
-has_number number row x e z = let praise : verdict_by number row ≡ Good = rw z in never_good x (e ∙ praise)
+refused_changes_nothing s e bad = rw bad
 
 -- An opening that is refused leaves the area as it was.
-pub refused_opening_leaves : {n : ℕ} {s s' : List ℕ} {x : Refusal} → Opened n s (Refused x) s' → s' ≡ s
-refused_opening_leaves {n} {s} {s'} {x} o =
-    o.fills ∙ rw (ne_eqb (size_refusal n 0) 0 (has_number (size_refusal n 0) 0 x o.answers))
+pub refused_opening_leaves : {n : ℕ} {s s' : List ℕ} {x : Refusal} → Opened n s (Err x) s' → s' ≡ s
+refused_opening_leaves {n} o = o.fills ∙ rw (wrong_some (size_refusal n 0) 0 (sym o.answers))
 
 -- An edit that is refused leaves the area as it was.
-pub refused_edit_leaves : {s s' : List ℕ} {e : Edit} {x : Refusal} → Edited s e (Refused x) s' → s' ≡ s
-refused_edit_leaves {s} {s'} {e} {x} o =
-    o.fills ∙ refused_changes_nothing s e (has_number (edit_refusal s e) (about_row s e) x o.answers)
+pub refused_edit_leaves : {s s' : List ℕ} {e : Edit} {x : Refusal} → Edited s e (Err x) s' → s' ≡ s
+refused_edit_leaves {s} {e = e} o =
+    o.fills ∙ refused_changes_nothing s e (wrong_some (edit_refusal s e) (about_row s e) (sym o.answers))
 
 -- Link p lies on the way of the row put in or on that of the row taken out.
 unfoldable pub on_way : List ℕ → Edit → ℕ → Bool
@@ -221,9 +213,9 @@ on_way s (Change k r) p = crosses (nodes_in s) (row_in s (k - 1)) p || crosses (
 on_way s (Remove k) p = crosses (nodes_in s) (row_in s (k - 1)) p
 
 -- A count off the way of a row isn't touched.
-off_way : (up : Bool) (n : ℕ) (r : Row) (p x : ℕ) → crosses n r p ≡ false → step_for up n r p x ≡ x
+off_way : (by : ℕ → ℕ) (n : ℕ) (r : Row) (p x : ℕ) → crosses n r p ≡ false → step_for by n r p x ≡ x
 unfolding step_for
-off_way up n r p x off = rw off
+off_way by n r p x off = rw off
 
 -- Neither of two tests holds.
 both_false : (a b : Bool) → (a || b) ≡ false → (a ≡ false) × (b ≡ false)
@@ -233,12 +225,12 @@ both_false false b e = (refl, e)
 -- A count off the ways stays through a good edit.
 load_off : (s : List ℕ) (e : Edit) (p : ℕ) → on_way s e p ≡ false → load_after s e p ≡ load_in s p
 unfolding on_way load_after
-load_off s (Add r) p off = off_way true (nodes_in s) r p (load_in s p) off
+load_off s (Add r) p off = off_way (raised r.len) (nodes_in s) r p (load_in s p) off
 load_off s (Change k r) p off =
     let neither = both_false (crosses (nodes_in s) (row_in s (k - 1)) p) (crosses (nodes_in s) r p) off in
-    off_way true (nodes_in s) r p _ neither.1
-    ∙ off_way false (nodes_in s) (row_in s (k - 1)) p (load_in s p) neither.0
-load_off s (Remove k) p off = off_way false (nodes_in s) (row_in s (k - 1)) p (load_in s p) off
+    off_way (raised r.len) (nodes_in s) r p _ neither.1
+    ∙ off_way (lowered (row_in s (k - 1)).len) (nodes_in s) (row_in s (k - 1)) p (load_in s p) neither.0
+load_off s (Remove k) p off = off_way (lowered (row_in s (k - 1)).len) (nodes_in s) (row_in s (k - 1)) p (load_in s p) off
 
 -- An edit of any area changes no count of a link that lies neither on the way of the row put in nor on that of the row
 -- taken out.
@@ -247,17 +239,17 @@ pub only_on_the_ways : (s : List ℕ) (e : Edit) (p : ℕ)
     → on_way s e p ≡ false
     → load_in (area_after s e) p ≡ load_in s p
 unfolding area_after edited
-only_on_the_ways s e p l off = go (eqb (edit_refusal s e) 0)
+only_on_the_ways s e p l off = go (edit_refusal s e)
   where
-    go : (b : Bool) → load_in (cond b (edited s e) s) p ≡ load_in s p
-    go true =
+    go : (v : Result Unit ℕ) → load_in (cond (is_ok v) (edited s e) s) p ≡ load_in s p
+    go (Ok _) =
         load_in_laid (nodes_in s) (load_after s e) (rows_after (rows_in s) e) (behind_after s e) p l ∙ load_off s e p off
-    go false = refl
+    go (Err _) = refl
 
 -- ---- the busiest link
 -- The busiest link of an edited table is the lowest of those that the most cells cross, counted afresh.
 pub busiest_of_edited : (n : ℕ) (es : List Edit)
-    → size_refusal n 0 ≡ 0
+    → size_refusal n 0 ≡ Ok tt
     → Busiest n (load n (rows_in (after_edits (area_of n []) es))) (busiest_in (loads_in (after_edits (area_of n []) es)))
 busiest_of_edited n es opened =
     let sized = size_fits n 0 opened in

@@ -7,75 +7,56 @@ ghost use Rattle.edit_judge.specs.Judge.{Add, Change, Remove};
 ghost use Rattle.edit.specs.Edit.{Opened, Edited, entry_of};
 
 use area::{Area, row_in};
-use edit_judge::{add_refusal, change_refusal, number_refusal, refusal, size_refusal};
-use edit_store::{add_row, change_row, remove_row, stepped};
-use lists::clear;
-use table::{Refusal, Row, Verdict};
-
-// A row that is asked for, or why there is none to show.
-#[derive(Clone, Copy)]
-pub enum Entry {
-    Shown(Row),
-    Refused(Refusal),
-}
+use edit_judge::{add_refusal, change_refusal, number_refusal, size_refusal, verdict};
+use edit_store::{add_row, change_row, remove_row};
+use table::{Refusal, Row};
 
 // Opens an empty table for so many nodes, whatever the lent area held.
-pub fn open(table: &mut Area, nodes: u16) -> Verdict
+pub fn open(table: &mut Area, nodes: u16) -> Result<(), Refusal>
     ensures { Opened nodes table.old result table.new }
 {
-    let why = size_refusal(nodes, 0);
-    if why != 0 {
-        return Verdict::Refused(refusal(why, 0));
-    }
-    clear(table);
+    verdict(size_refusal(nodes, 0), 0)?;
+    table.fill(0);
     table[0] = nodes;
-    Verdict::Good
+    Ok(())
 }
 
 // Adds a row at the end of an open table.
-pub fn add(table: &mut Area, row: Row) -> Verdict
+pub fn add(table: &mut Area, row: Row) -> Result<(), Refusal>
     ensures { Edited table.old (Add row) result table.new }
 {
     let rows = table[1];
-    let why = add_refusal(table[0], rows, row);
-    if why != 0 {
-        return Verdict::Refused(refusal(why, stepped(rows, 1, true)));
-    }
+    let wrong = add_refusal(table[0], rows, row);
+    verdict(wrong, rows.saturating_add(1))?;
     add_row(table, row);
-    Verdict::Good
+    Ok(())
 }
 
 // Changes row `number` of an open table.
-pub fn change(table: &mut Area, number: u16, row: Row) -> Verdict
+pub fn change(table: &mut Area, number: u16, row: Row) -> Result<(), Refusal>
     ensures { Edited table.old (Change number row) result table.new }
 {
-    let why = change_refusal(table[0], table[1], number, row);
-    if why != 0 {
-        return Verdict::Refused(refusal(why, number));
-    }
+    let wrong = change_refusal(table[0], table[1], number, row);
+    verdict(wrong, number)?;
     change_row(table, number, row);
-    Verdict::Good
+    Ok(())
 }
 
 // Removes row `number` of an open table; later rows move down one number.
-pub fn remove(table: &mut Area, number: u16) -> Verdict
+pub fn remove(table: &mut Area, number: u16) -> Result<(), Refusal>
     ensures { Edited table.old (Remove number) result table.new }
 {
-    let why = number_refusal(table[0], table[1], number);
-    if why != 0 {
-        return Verdict::Refused(refusal(why, number));
-    }
+    let wrong = number_refusal(table[0], table[1], number);
+    verdict(wrong, number)?;
     remove_row(table, number);
-    Verdict::Good
+    Ok(())
 }
 
 // Row `number`, or 12 where it isn't there.
-pub fn row_of(table: &Area, number: u16) -> Entry
+pub fn row_of(table: &Area, number: u16) -> Result<Row, Refusal>
     ensures { result ≡ entry_of table.now number }
 {
-    let why = number_refusal(table[0], table[1], number);
-    if why != 0 {
-        return Entry::Refused(refusal(why, number));
-    }
-    Entry::Shown(row_in(table, number as usize - 1))
+    let wrong = number_refusal(table[0], table[1], number);
+    verdict(wrong, number)?;
+    Ok(row_in(table, number as usize - 1))
 }

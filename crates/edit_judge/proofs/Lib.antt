@@ -1,2 +1,1 @@
 pub mod Refusals
-mod Refusing

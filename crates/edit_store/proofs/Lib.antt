@@ -1,3 +1,2 @@
-mod Places
 mod Stepping
 mod Storing

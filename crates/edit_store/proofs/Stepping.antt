@@ -18,7 +18,7 @@ use Rattle.lists.specs.Lists.{build}
 use Rattle.lists.proofs.Build.{is_build, build_ext, get_or_build, length-build}
 use Rattle.table.specs.declared.Row.{Row}
 use Rattle.area.specs.Area.{most_links, crosses}
-use Rattle.edit_store.specs.Store.{step_by, step_for}
+use Rattle.edit_store.specs.Store.{step_for}
 use Rattle.edit_store.specs.Steps.{stepped_way}
 
 -- An entry of a list that a rule was applied to.
@@ -60,20 +60,20 @@ abbrev pub between : (a b p : ℕ) → Bool
 between a b p = leb a p && ltb p b
 
 -- The count x of link p where the stretch from a to b is stepped by one step.
-abbrev pub in_stretch : (up : Bool) (step a b p x : ℕ) → ℕ
-in_stretch up step a b p x = cond (between a b p) (step_by up step x) x
+abbrev pub in_stretch : (by : ℕ → ℕ) (a b p x : ℕ) → ℕ
+in_stretch by a b p x = cond (between a b p) (by x) x
 
-module _ (up : Bool) (step a b : ℕ) where
-  pub stretch_in : (p x : ℕ) → a ≤ p → p < b → in_stretch up step a b p x ≡ step_by up step x
+module _ (by : ℕ → ℕ) (a b : ℕ) where
+  pub stretch_in : (p x : ℕ) → a ≤ p → p < b → in_stretch by a b p x ≡ by x
   stretch_in p x h k = rw (le-leb a p h, lt-ltb p b k)
 
-  pub stretch_below : (p x : ℕ) → p < a → in_stretch up step a b p x ≡ x
+  pub stretch_below : (p x : ℕ) → p < a → in_stretch by a b p x ≡ x
   stretch_below p x h = rw (lt-leb a p h)
 
-  pub stretch_above : (p x : ℕ) → b ≤ p → in_stretch up step a b p x ≡ x
+  pub stretch_above : (p x : ℕ) → b ≤ p → in_stretch by a b p x ≡ x
   stretch_above p x h = go (leb a p)
     where
-      go : (t : Bool) → cond (t && ltb p b) (step_by up step x) x ≡ x
+      go : (t : Bool) → cond (t && ltb p b) (by x) x ≡ x
       go true = rw (le-ltb p b h)
       go false = refl
 
@@ -81,16 +81,16 @@ module _ (up : Bool) (step a b : ℕ) where
   pub part_stepped : (l ys : List ℕ)
       → a ≤ b
       → b ≤ length l
-      → ys ≡ map (step_by up step) (mid_of a (b - a) l)
-      → put_mid a (b - a) l ys ≡ build (length l) (λ p. in_stretch up step a b p (get_or l p 0))
+      → ys ≡ map by (mid_of a (b - a) l)
+      → put_mid a (b - a) l ys ≡ build (length l) (λ p. in_stretch by a b p (get_or l p 0))
   part_stepped l ys h k so =
-      is_build (length l) (λ p. in_stretch up step a b p (get_or l p 0)) 0 (put_mid a (b - a) l ys)
+      is_build (length l) (λ p. in_stretch by a b p (get_or l p 0)) 0 (put_mid a (b - a) l ys)
       (put_long a b l ys h k long) (λ p s. entry p (ltb p a) (ltb p b) refl refl)
     where
       long : length ys ≡ b - a
-      long = ap length so ∙ length-map (mid_of a (b - a) l) (step_by up step) ∙ mid_len a b l k
+      long = ap length so ∙ length-map (mid_of a (b - a) l) (by) ∙ mid_len a b l k
 
-      inside : (p : ℕ) → a ≤ p → p < b → get_or ys (p - a) 0 ≡ step_by up step (get_or l p 0)
+      inside : (p : ℕ) → a ≤ p → p < b → get_or ys (p - a) 0 ≡ by (get_or l p 0)
       inside p s t =
           let short : p - a < length (mid_of a (b - a) l) = omega (arith, mid_len a b l k) in
           let back : a + (p - a) ≡ p = omega arith in
@@ -98,12 +98,12 @@ module _ (up : Bool) (step a b : ℕ) where
           get_or-take (b - a) (drop a l) (p - a) 0 (omega arith)
           ∙ get_or-drop a l (p - a) 0 ∙ ap (λ (i : ℕ). get_or l i 0) back
           in
-          rw so (map_at (step_by up step) (mid_of a (b - a) l) (p - a) short ∙ ap (step_by up step) there)
+          rw so (map_at by (mid_of a (b - a) l) (p - a) short ∙ ap by there)
 
       entry : (p : ℕ) (before inside : Bool)
           → ltb p a ≡ before
           → ltb p b ≡ inside
-          → get_or (put_mid a (b - a) l ys) p 0 ≡ in_stretch up step a b p (get_or l p 0)
+          → get_or (put_mid a (b - a) l ys) p 0 ≡ in_stretch by a b p (get_or l p 0)
       entry p true y ex ey =
           let less = ltb-true p a ex in
           put_before a b l ys h k long p less ∙ sym (stretch_below p (get_or l p 0) less)
@@ -116,8 +116,8 @@ module _ (up : Bool) (step a b : ℕ) where
           put_behind a b l ys h k long p more ∙ sym (stretch_above p (get_or l p 0) more)
 
 -- ---- the links of a way as stretches
-module _ (up : Bool) (n : ℕ) (r : Row) where
-  off_ring : (p x : ℕ) → n ≤ p → step_for up n r p x ≡ x
+module _ (by : ℕ → ℕ) (n : ℕ) (r : Row) where
+  off_ring : (p x : ℕ) → n ≤ p → step_for by n r p x ≡ x
   unfolding step_for crosses
   off_ring p x h = rw (le-ltb p n h)
 
@@ -126,13 +126,13 @@ module _ (up : Bool) (n : ℕ) (r : Row) where
       → p < n
       → (b : Bool)
       → cond (ltb r.src r.dst) (leb r.src p && ltb p r.dst) (leb r.src p || ltb p r.dst) ≡ b
-      → step_for up n r p x ≡ cond b (step_by up r.len x) x
+      → step_for by n r p x ≡ cond b (by x) x
   unfolding step_for crosses
   on_way_lem p x h b e = rw (lt-ltb p n h, e)
 
   pub one_stretch : r.src < r.dst
       → (p x : ℕ)
-      → in_stretch up r.len (min r.src n) (min r.dst n) p x ≡ step_for up n r p x
+      → in_stretch by (min r.src n) (min r.dst n) p x ≡ step_for by n r p x
   one_stretch way p x = go (ltb p n) (ltb p r.src) (ltb p r.dst) refl refl refl
     where
       from : ℕ
@@ -145,31 +145,31 @@ module _ (up : Bool) (n : ℕ) (r : Row) where
           → ltb p n ≡ on
           → ltb p r.src ≡ before
           → ltb p r.dst ≡ short
-          → in_stretch up r.len from to p x ≡ step_for up n r p x
+          → in_stretch by from to p x ≡ step_for by n r p x
       go false before short e f g =
           let past = ltb-false p n e in
-          stretch_above up r.len from to p x (omega arith) ∙ sym (off_ring p x past)
+          stretch_above by from to p x (omega arith) ∙ sym (off_ring p x past)
       go true true short e f g =
           let less = ltb-true p r.src f in
           let here = ltb-true p n e in
-          stretch_below up r.len from to p x (omega arith)
+          stretch_below by from to p x (omega arith)
           ∙ sym (on_way_lem p x here false (rw (lt-ltb r.src r.dst way, lt-leb r.src p less)))
       go true false true e f g =
           let more = ltb-false p r.src f in
           let less = ltb-true p r.dst g in
           let here = ltb-true p n e in
-          stretch_in up r.len from to p x (omega arith) (omega arith)
+          stretch_in by from to p x (omega arith) (omega arith)
           ∙ sym (on_way_lem p x here true (rw (lt-ltb r.src r.dst way, le-leb r.src p more, g)))
       go true false false e f g =
           let more = ltb-false p r.src f in
           let past = ltb-false p r.dst g in
           let here = ltb-true p n e in
-          stretch_above up r.len from to p x (omega arith)
+          stretch_above by from to p x (omega arith)
           ∙ sym (on_way_lem p x here false (rw (lt-ltb r.src r.dst way, le-leb r.src p more, g)))
 
   pub two_stretches : r.dst ≤ r.src
       → (p x : ℕ)
-      → in_stretch up r.len 0 (min r.dst n) p (in_stretch up r.len (min r.src n) n p x) ≡ step_for up n r p x
+      → in_stretch by 0 (min r.dst n) p (in_stretch by (min r.src n) n p x) ≡ step_for by n r p x
   two_stretches way p x = go (ltb p n) (ltb p r.src) (ltb p r.dst) refl refl refl
     where
       from : ℕ
@@ -182,77 +182,78 @@ module _ (up : Bool) (n : ℕ) (r : Row) where
           → ltb p n ≡ on
           → ltb p r.src ≡ before
           → ltb p r.dst ≡ short
-          → in_stretch up r.len 0 to p (in_stretch up r.len from n p x) ≡ step_for up n r p x
+          → in_stretch by 0 to p (in_stretch by from n p x) ≡ step_for by n r p x
       go false before short e f g =
           let past = ltb-false p n e in
-          stretch_above up r.len 0 to p _ (omega arith) ∙ stretch_above up r.len from n p x past
+          stretch_above by 0 to p _ (omega arith) ∙ stretch_above by from n p x past
           ∙ sym (off_ring p x past)
       go true true true e f g =
           let less = ltb-true p r.dst g in
           let early = ltb-true p r.src f in
           let here = ltb-true p n e in
-          rw (stretch_below up r.len from n p x (omega arith))
-          (stretch_in up r.len 0 to p x (omega arith) (omega arith))
+          rw (stretch_below by from n p x (omega arith))
+          (stretch_in by 0 to p x (omega arith) (omega arith))
           ∙ sym (on_way_lem p x here true (rw (le-ltb r.src r.dst way, lt-leb r.src p early, g)))
       go true true false e f g =
           let past = ltb-false p r.dst g in
           let early = ltb-true p r.src f in
           let here = ltb-true p n e in
-          stretch_above up r.len 0 to p _ (omega arith) ∙ stretch_below up r.len from n p x (omega arith)
+          stretch_above by 0 to p _ (omega arith) ∙ stretch_below by from n p x (omega arith)
           ∙ sym (on_way_lem p x here false (rw (le-ltb r.src r.dst way, lt-leb r.src p early, g)))
       go true false short e f g =
           let more = ltb-false p r.src f in
           let here = ltb-true p n e in
-          stretch_above up r.len 0 to p _ (omega arith) ∙ stretch_in up r.len from n p x (omega arith) here
+          stretch_above by 0 to p _ (omega arith) ∙ stretch_in by from n p x (omega arith) here
           ∙ sym (on_way_lem p x here true (rw (le-ltb r.src r.dst way, le-leb r.src p more)))
 
 -- ---- the counts of a way, in one list of all links
-module _ (up : Bool) (n : ℕ) (r : Row) (l : List ℕ) (ring : n ≤ most_links) (long : length l ≡ most_links) where
+module _ (by : ℕ → ℕ) (n : ℕ) (r : Row) (l : List ℕ) (ring : n ≤ most_links) (long : length l ≡ most_links) where
   -- The count of link p, stepped where the row crosses it.
   abbrev stepped : ℕ → ℕ
-  stepped p = step_for up n r p (get_or l p 0)
+  stepped p = step_for by n r p (get_or l p 0)
 
   pub way_ahead : {from to : ℕ} {ys : List ℕ}
       → from ≡ min r.src n
       → to ≡ min r.dst n
       → r.src < r.dst
-      → ys ≡ map (step_by up r.len) (mid_of from (to - from) l)
-      → put_mid from (to - from) l ys ≡ stepped_way up n r l
+      → ys ≡ map by (mid_of from (to - from) l)
+      → put_mid from (to - from) l ys ≡ stepped_way by n r l
   unfolding stepped_way
   way_ahead {from} {to} {ys} f t way so =
-      part_stepped up r.len from to l ys (omega arith) (omega arith) so
-      ∙ rw long (build_ext most_links (λ p. in_stretch up r.len from to p (get_or l p 0)) stepped one)
+      part_stepped by from to l ys (omega arith) (omega arith) so
+      ∙ rw long (build_ext most_links (λ p. in_stretch by from to p (get_or l p 0)) stepped one)
     where
-      one : (p : ℕ) → p < most_links → in_stretch up r.len from to p (get_or l p 0) ≡ stepped p
-      one p h = rw (f, t) (one_stretch up n r way p (get_or l p 0))
+      one : (p : ℕ) → p < most_links → in_stretch by from to p (get_or l p 0) ≡ stepped p
+      one p h = rw (f, t) (one_stretch by n r way p (get_or l p 0))
 
   pub way_round : {from to : ℕ} {ys zs : List ℕ}
       → from ≡ min r.src n
       → to ≡ min r.dst n
       → r.dst ≤ r.src
-      → ys ≡ map (step_by up r.len) (mid_of from (n - from) l)
-      → zs ≡ map (step_by up r.len) (mid_of 0 (to - 0) (put_mid from (n - from) l ys))
-      → put_mid 0 (to - 0) (put_mid from (n - from) l ys) zs ≡ stepped_way up n r l
+      → ys ≡ map by (mid_of from (n - from) l)
+      → zs ≡ map by (take to (put_mid from (n - from) l ys))
+      → zs ++ drop to (put_mid from (n - from) l ys) ≡ stepped_way by n r l
   unfolding stepped_way
   way_round {from} {to} {ys} {zs} f t way so last =
-      part_stepped up r.len 0 to l' zs (omega arith) (omega (arith, whole)) last
-      ∙ rw whole (build_ext most_links (λ p. in_stretch up r.len 0 to p (get_or l' p 0)) stepped both)
+      let all : to - 0 ≡ to = omega arith in
+      rw all at (part_stepped by 0 to l' zs (omega arith) (omega (arith, whole)) (rw all last))
+      ∙ rw whole (build_ext most_links (λ p. in_stretch by 0 to p (get_or l' p 0)) stepped both)
     where
       l' : List ℕ
       l' = put_mid from (n - from) l ys
 
       upper : ℕ → ℕ
-      upper p = in_stretch up r.len from n p (get_or l p 0)
+      upper p = in_stretch by from n p (get_or l p 0)
 
       first : l' ≡ build most_links upper
-      first = part_stepped up r.len from n l ys (omega arith) (omega arith) so ∙ rw long
+      first = part_stepped by from n l ys (omega arith) (omega arith) so ∙ rw long
 
       whole : length l' ≡ most_links
       whole = ap length first ∙ length-build most_links upper
 
-      both : (p : ℕ) → p < most_links → in_stretch up r.len 0 to p (get_or l' p 0) ≡ stepped p
+      both : (p : ℕ) → p < most_links → in_stretch by 0 to p (get_or l' p 0) ≡ stepped p
       both p h =
           let entry : get_or l' p 0 ≡ upper p =
           ap (λ (m : List ℕ). get_or m p 0) first ∙ get_or_build most_links upper p 0 h
           in
-          rw (entry, f, t) (two_stretches up n r way p (get_or l p 0))
+          rw (entry, f, t) (two_stretches by n r way p (get_or l p 0))

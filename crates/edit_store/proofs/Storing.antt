@@ -5,7 +5,6 @@
 --     added, changed, removed                  the same for an area as it was lent, in the words of the promise
 -- Assumes nothing.
 use mathlib.Core.Path.{◌≡◌, refl, ◌∙◌, ap, sym}
-use mathlib.Core.Bool.{Bool, true, false}
 use mathlib.Core.List.{List, [], ◌∷◌, ◌++◌, append_assoc, append-nil}
 use Prim.Native.Nat.{ℕ, suc, ◌+◌, ◌-◌, ◌≤◌, ◌<◌}
 use native.Mathlib.Omega.{arith}
@@ -22,7 +21,7 @@ use Rattle.area.specs.Area.{nodes_in, count_in, load_in, row_in, rows_in}
 use Rattle.area.proofs.RowNumbers.{numbers_long, numbers_cons, numbers_parted, numbers_later}
 use Rattle.area.proofs.Areas.{head, head_long, laid_is, laid_again, rows_counted}
 use Rattle.edit_judge.specs.Judge.{Add, Change, Remove}
-use Rattle.edit_store.specs.Store.{step_for, load_after, rows_after, behind_after, edited}
+use Rattle.edit_store.specs.Store.{raised, lowered, step_for, load_after, rows_after, behind_after, edited}
 use Rattle.edit_store.specs.Steps.{stepped_way, way_stepped, row_put, Roomy, There}
 
 -- A part put into a list behind a front, and a part taken out of it.
@@ -61,11 +60,11 @@ module _ (n : ℕ) (f : ℕ → ℕ) (rows : List Row) (behind : List ℕ) where
   body = numbers rows ++ behind
 
   -- The counts of a row's way stepped.
-  pub way_counted : (up : Bool) (r : Row) (counts : List ℕ)
-      → counts ≡ stepped_way up n r (counts_of area)
-      → with_counts area counts ≡ laid n (λ p. step_for up n r p (f p)) rows behind
+  pub way_counted : (by : ℕ → ℕ) (r : Row) (counts : List ℕ)
+      → counts ≡ stepped_way by n r (counts_of area)
+      → with_counts area counts ≡ laid n (λ p. step_for by n r p (f p)) rows behind
   unfolding laid stepped_way
-  way_counted up r counts so =
+  way_counted by r counts so =
       put_at (n ∷ length rows ∷ []) (build most_links f ++ body) counts loads_begin most_links refl
       ∙ rw (drop_at (build most_links f) body most_links (length-build most_links f))
       (ap (λ (l : List ℕ). n ∷ length rows ∷ (l ++ body)) (so ∙ build_ext most_links old new stepped))
@@ -76,13 +75,13 @@ module _ (n : ℕ) (f : ℕ → ℕ) (rows : List Row) (behind : List ℕ) where
           ∙ get_or_build most_links f p 0 h
 
       old : ℕ → ℕ
-      old p = step_for up n r p (get_or (counts_of area) p 0)
+      old p = step_for by n r p (get_or (counts_of area) p 0)
 
       new : ℕ → ℕ
-      new p = step_for up n r p (f p)
+      new p = step_for by n r p (f p)
 
       stepped : (p : ℕ) → p < most_links → old p ≡ new p
-      stepped p h = ap (step_for up n r p) (entry p h)
+      stepped p h = ap (step_for by n r p) (entry p h)
 
   -- The numbers before a row of the area.
   abbrev before : List Row → List ℕ
@@ -230,13 +229,13 @@ module _ (n : ℕ) (f : ℕ → ℕ) (rows : List Row) (behind : List ℕ) where
           (ap (λ (l : List ℕ). numbers (take i rows) ++ l) (sym (append_assoc (numbers later) zeros behind)))
 
 -- The counts of a way put in their place.
-pub way_put : (up : Bool) (n : ℕ) (r : Row) (s counts : List ℕ)
-    → counts ≡ stepped_way up n r (counts_of s)
-    → with_counts s counts ≡ way_stepped up n r s
+pub way_put : (by : ℕ → ℕ) (n : ℕ) (r : Row) (s counts : List ℕ)
+    → counts ≡ stepped_way by n r (counts_of s)
+    → with_counts s counts ≡ way_stepped by n r s
 unfolding way_stepped
-way_put up n r s counts so =
+way_put by n r s counts so =
     ap (λ (l : List ℕ). take loads_begin s ++ (l ++ drop most_links (drop loads_begin s))) so
-    ∙ ap (λ (l : List ℕ). take loads_begin s ++ (stepped_way up n r (counts_of s) ++ l))
+    ∙ ap (λ (l : List ℕ). take loads_begin s ++ (stepped_way by n r (counts_of s) ++ l))
     (drop-drop most_links loads_begin s)
 
 -- The numbers of a row put in their place.
@@ -268,14 +267,14 @@ module _ (s : List ℕ) where
   laid_here whole few = sym (laid_again s whole few)
 
   -- A way counted, where the counts were f.
-  counted : (up : Bool) (f : ℕ → ℕ) (t t' : List ℕ) (r : Row)
+  counted : (by : ℕ → ℕ) (f : ℕ → ℕ) (t t' : List ℕ) (r : Row)
       → t ≡ laid_with f
-      → t' ≡ way_stepped up (nodes_in s) r t
-      → t' ≡ laid_with (λ p. step_for up (nodes_in s) r p (f p))
-  counted up f t t' r e so =
-      so ∙ ap (way_stepped up (nodes_in s) r) e
-      ∙ sym (way_put up (nodes_in s) r (laid_with f) (stepped_way up (nodes_in s) r (counts_of (laid_with f))) refl)
-      ∙ way_counted (nodes_in s) f (rows_in s) behind_in up r _ refl
+      → t' ≡ way_stepped by (nodes_in s) r t
+      → t' ≡ laid_with (λ p. step_for by (nodes_in s) r p (f p))
+  counted by f t t' r e so =
+      so ∙ ap (way_stepped by (nodes_in s) r) e
+      ∙ sym (way_put by (nodes_in s) r (laid_with f) (stepped_way by (nodes_in s) r (counts_of (laid_with f))) refl)
+      ∙ way_counted (nodes_in s) f (rows_in s) behind_in by r _ refl
 
   -- A row put, where the counts were f.
   put : (i : ℕ) (f : ℕ → ℕ) (t t' : List ℕ) (r : Row)
@@ -287,7 +286,7 @@ module _ (s : List ℕ) where
   -- The way of a new row counted in, the row put behind the last, and the number of rows raised.
   pub added : (r : Row) (t u : List ℕ)
       → Roomy s
-      → t ≡ way_stepped true (nodes_in s) r s
+      → t ≡ way_stepped (raised r.len) (nodes_in s) r s
       → u ≡ row_put (count_in s) r t
       → set u 1 (count_in s + 1) ≡ edited s (Add r)
   unfolding edited load_after rows_after behind_after
@@ -296,7 +295,7 @@ module _ (s : List ℕ) where
       let last : at ≡ row_place (length (rows_in s)) = omega (arith, rows_counted s) in
       let more : count_in s + 1 ≡ length (rows_in s) + 1 = omega (arith, rows_counted s) in
       let past : at + row_width ≡ row_place (suc (count_in s)) = omega arith in
-      let way = counted true (load_in s) s t r here so in
+      let way = counted (raised r.len) (load_in s) s t r here so in
       ap (λ (l : List ℕ). set l 1 (count_in s + 1)) (put (count_in s) loads t u r way is)
       ∙ row_added (nodes_in s) loads (rows_in s) behind_in r at (count_in s + 1) (row_numbers r) last more refl
       ∙ ap (laid (nodes_in s) loads (rows_in s ++ (r ∷ [])))
@@ -306,7 +305,7 @@ module _ (s : List ℕ) where
       at = row_place (count_in s)
 
       loads : ℕ → ℕ
-      loads p = step_for true (nodes_in s) r p (load_in s p)
+      loads p = step_for (raised r.len) (nodes_in s) r p (load_in s p)
 
   module _ (k : ℕ) (there : There s k) where
     index : k - 1 < length (rows_in s)
@@ -321,35 +320,35 @@ module _ (s : List ℕ) where
     -- The way of the old row counted out, that of the new one in, and the row put in its place.
     pub changed : (r old : Row) (t u v : List ℕ)
         → old ≡ row_in s (k - 1)
-        → t ≡ way_stepped false (nodes_in s) old s
-        → u ≡ way_stepped true (nodes_in s) r t
+        → t ≡ way_stepped (lowered old.len) (nodes_in s) old s
+        → u ≡ way_stepped (raised r.len) (nodes_in s) r t
         → v ≡ row_put (k - 1) r u
         → v ≡ edited s (Change k r)
     unfolding edited load_after rows_after behind_after
     changed r old t u v was so then is =
-        let out = counted false (load_in s) s t old here so in
-        let in' = counted true fewer t u r out then in
+        let out = counted (lowered old.len) (load_in s) s t old here so in
+        let in' = counted (raised r.len) fewer t u r out then in
         put (k - 1) loads u v r in' is
         ∙ row_changed (nodes_in s) loads (rows_in s) behind_in r (k - 1) (row_place (k - 1)) (row_numbers r) index refl refl
         ∙ rw (number, was)
       where
         fewer : ℕ → ℕ
-        fewer p = step_for false (nodes_in s) old p (load_in s p)
+        fewer p = step_for (lowered old.len) (nodes_in s) old p (load_in s p)
 
         loads : ℕ → ℕ
-        loads p = step_for true (nodes_in s) r p (fewer p)
+        loads p = step_for (raised r.len) (nodes_in s) r p (fewer p)
 
     -- The way of the old row counted out, the gap closed, and the number of rows lowered.
     pub removed : (old : Row) (t ys : List ℕ) (at end : ℕ)
         → at ≡ row_place (k - 1)
         → end ≡ row_place (count_in s)
         → old ≡ row_in s (k - 1)
-        → t ≡ way_stepped false (nodes_in s) old s
+        → t ≡ way_stepped (lowered old.len) (nodes_in s) old s
         → ys ≡ drop row_width (mid_of at (end - at) t) ++ zeros
         → set (put_mid at (end - at) t ys) 1 (count_in s - 1) ≡ edited s (Remove k)
     unfolding edited load_after rows_after behind_after
     removed old t ys at end e g was so is =
-        let out = counted false (load_in s) s t old here so in
+        let out = counted (lowered old.len) (load_in s) s t old here so in
         let moved : ys ≡ drop row_width (mid_of at (end - at) (laid_with fewer)) ++ zeros =
         is ∙ ap (λ (l : List ℕ). drop row_width (mid_of at (end - at) l) ++ zeros) out
         in
@@ -360,4 +359,4 @@ module _ (s : List ℕ) where
         ∙ rw (number, was)
       where
         fewer : ℕ → ℕ
-        fewer p = step_for false (nodes_in s) old p (load_in s p)
+        fewer p = step_for (lowered old.len) (nodes_in s) old p (load_in s p)

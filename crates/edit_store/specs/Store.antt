@@ -1,6 +1,6 @@
 -- What an edit that nothing is wrong with makes of an area: document 02, Ask 2. What stands where in an area is said in
 -- crates/area/specs/Area.antt.
-use Rattle.std.specs.Prelude.{ℕ, suc, ◌+◌, ◌-◌, min, Bool, true, false, cond, List, [], ◌∷◌, ◌++◌, take, drop, replicate}
+use Rattle.std.specs.Prelude.{ℕ, suc, ◌+◌, ◌-◌, min, cond, List, [], ◌∷◌, ◌++◌, take, drop, replicate}
 use Rattle.table.specs.declared.Row.{Row}
 use Rattle.area.specs.Area.{row_width, row_place, crosses, laid, nodes_in, count_in, load_in, row_in, rows_in}
 use Rattle.edit_judge.specs.Judge.{Edit, Add, Change, Remove}
@@ -12,19 +12,24 @@ rows_after rows (Change k r) = take (k - 1) rows ++ (r ∷ drop k rows)
 rows_after rows (Remove k) = take (k - 1) rows ++ drop k rows
 
 -- A count x higher or lower by a step, held at 65,535 and at 0; the counts of an open table never come there.
-unfoldable pub step_by : (up : Bool) (step x : ℕ) → ℕ
-step_by true step x = min (x + step) 65535
-step_by false step x = x - step
+abbrev pub raised : (step x : ℕ) → ℕ
+raised step x = min (x + step) 65535
 
--- The count x of link p after the cells of row r are counted in or out.
-unfoldable pub step_for : (up : Bool) → ℕ → Row → (p x : ℕ) → ℕ
-step_for up n r p x = cond (crosses n r p) (step_by up r.len x) x
+abbrev pub lowered : (step x : ℕ) → ℕ
+lowered step x = x - step
+
+-- The count x of link p after the cells of row r are counted in or out, by `raised r.len` or `lowered r.len`.
+unfoldable pub step_for : (by : ℕ → ℕ) → ℕ → Row → (p x : ℕ) → ℕ
+step_for by n r p x = cond (crosses n r p) (by x) x
 
 -- The count of link p after an edit that is good: the old row is counted out, the new one in.
 unfoldable pub load_after : List ℕ → Edit → ℕ → ℕ
-load_after s (Add r) p = step_for true (nodes_in s) r p (load_in s p)
-load_after s (Change k r) p = step_for true (nodes_in s) r p (step_for false (nodes_in s) (row_in s (k - 1)) p (load_in s p))
-load_after s (Remove k) p = step_for false (nodes_in s) (row_in s (k - 1)) p (load_in s p)
+load_after s (Add r) p = step_for (raised r.len) (nodes_in s) r p (load_in s p)
+load_after s (Change k r) p =
+    let old = row_in s (k - 1) in
+    step_for (raised r.len) (nodes_in s) r p (step_for (lowered old.len) (nodes_in s) old p (load_in s p))
+load_after s (Remove k) p =
+    let old = row_in s (k - 1) in step_for (lowered old.len) (nodes_in s) old p (load_in s p)
 
 -- What stands behind the rows after an edit that is good: zeros come in behind a row that is removed.
 unfoldable pub behind_after : List ℕ → Edit → List ℕ

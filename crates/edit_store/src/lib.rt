@@ -1,66 +1,69 @@
 // An edit that nothing is wrong with, stored in the area: the loads of the ways stepped, the row put in or taken out.
 #![tactic(auto)]
 
-ghost use Rattle.std.specs.Prelude.{◌≡◌, ◌++◌, map, ◌≤◌, ◌<◌, length, drop, replicate};
+ghost use Rattle.std.specs.Prelude.{◌≡◌, ℕ, ◌++◌, map, ◌≤◌, ◌<◌, length, drop, replicate};
 ghost use Rattle.table.specs.Table.{most_rows, row_numbers};
 ghost use Rattle.area.specs.Area.{most_links, row_width, room};
 ghost use Rattle.edit_judge.specs.Judge.{Add, Change, Remove};
-ghost use Rattle.edit_store.specs.Store.{step_by, edited};
-ghost use Rattle.edit_store.specs.Steps.{Roomy, There, stepped_way, way_stepped, row_put};
+ghost use Rattle.edit_store.specs.Store.{raised, lowered, edited};
+ghost use Rattle.edit_store.specs.Steps.{Steps, Roomy, There, stepped_way, way_stepped, row_put};
 
-use area::{LOADS_BEGIN, ROW_WIDTH, ROWS_BEGIN, row_in};
-use lists::{clear, lower};
+use area::{Area, LOADS_BEGIN, ROW_WIDTH, ROWS_BEGIN, row_in};
 use table::Row;
 
-// A count higher or lower by a step, held where a number ends.
-pub fn stepped(count: u16, step: u16, up: bool) -> u16
-    ensures { result ≡ step_by up step count }
-{
-    if up {
-        if 65535 - count < step {
-            return 65535;
-        }
-        return count + step;
-    }
-    if count < step {
-        return 0;
-    }
-    count - step
-}
-
 // Steps the count of every link of a stretch.
-fn step_all(part: &mut [u16], step: u16, up: bool)
-    ensures { part.new ≡ map (step_by up step) part.old }
+fn step_all<F: Fn(u16) -> u16>(part: &mut [u16], step: &F)
+    ghost by: { ℕ → ℕ }
+    requires { Steps F.IsAlwaysCallable F.post step.now by }
+    ensures { part.new ≡ map by part.old }
 {
-    let mut i = 0;
-    while i < part.len() {
-        part[i] = stepped(part[i], step, up);
-        i += 1;
+    for count in part.iter_mut() {
+        *count = step(*count);
     }
 }
 
-// Steps the counts of the links on a row's way by its cells: one stretch of links, or two where it passes node 0.
-fn step_way(nodes: u16, row: Row, up: bool, load: &mut [u16])
-    requires { (nodes ≤ most_links) × (length load.old ≡ most_links) }
-    ensures { load.new ≡ stepped_way up nodes row load.old }
+// Steps the counts of the links on a row's way: one stretch of links, or two where it passes node 0.
+fn step_way<F: Fn(u16) -> u16>(nodes: u16, row: Row, load: &mut [u16], step: &F)
+    ghost by: { ℕ → ℕ }
+    requires ready { Steps F.IsAlwaysCallable F.post step.now by }
+    requires whole { (nodes ≤ most_links) × (length load.old ≡ most_links) }
+    ensures { load.new ≡ stepped_way by nodes row load.old }
 {
     let end = nodes as usize;
-    let from = lower(row.src as usize, end);
-    let to = lower(row.dst as usize, end);
+    let from = (row.src as usize).min(end);
+    let to = (row.dst as usize).min(end);
     if row.src < row.dst {
-        step_all(&mut load[from..to], row.len, up);
+        step_all(&mut load[from..to], step);
     } else {
-        step_all(&mut load[from..end], row.len, up);
-        step_all(&mut load[0..to], row.len, up);
+        step_all(&mut load[from..end], step);
+        step_all(&mut load[..to], step);
     }
 }
 
 // Steps the loads of the links on a row's way.
-fn step_loads(table: &mut [u16], nodes: u16, row: Row, up: bool)
-    requires { (length table.old ≡ room) × (nodes ≤ most_links) }
-    ensures { table.new ≡ way_stepped up nodes row table.old }
+fn step_loads<F: Fn(u16) -> u16>(table: &mut Area, nodes: u16, row: Row, step: &F)
+    ghost by: { ℕ → ℕ }
+    requires ready { Steps F.IsAlwaysCallable F.post step.now by }
+    requires few { nodes ≤ most_links }
+    ensures { table.new ≡ way_stepped by nodes row table.old }
 {
-    step_way(nodes, row, up, &mut table[LOADS_BEGIN..ROWS_BEGIN]);
+    step_way(nodes, row, &mut table[LOADS_BEGIN..ROWS_BEGIN], step);
+}
+
+// Counts the cells of a row in on its way.
+fn raise_loads(table: &mut Area, nodes: u16, row: Row)
+    requires { nodes ≤ most_links }
+    ensures { table.new ≡ way_stepped (raised row.len) nodes row table.old }
+{
+    step_loads(table, nodes, row, &|count| count.saturating_add(row.len));
+}
+
+// Counts the cells of a row out on its way.
+fn lower_loads(table: &mut Area, nodes: u16, row: Row)
+    requires { nodes ≤ most_links }
+    ensures { table.new ≡ way_stepped (lowered row.len) nodes row table.old }
+{
+    step_loads(table, nodes, row, &|count| count.saturating_sub(row.len));
 }
 
 // Writes the numbers of a row.
@@ -75,8 +78,8 @@ fn put_numbers(part: &mut [u16], row: Row)
 }
 
 // Puts a row at a place of the table, counted from 0.
-fn put_row(table: &mut [u16], i: usize, row: Row)
-    requires { (length table.old ≡ room) × (i < most_rows) }
+fn put_row(table: &mut Area, i: usize, row: Row)
+    requires { i < most_rows }
     ensures { table.new ≡ row_put i row table.old }
 {
     let at = ROWS_BEGIN + ROW_WIDTH * i;
@@ -89,41 +92,37 @@ fn close_gap(part: &mut [u16])
     ensures { part.new ≡ drop row_width part.old ++ replicate row_width 0 }
 {
     let last = part.len() - ROW_WIDTH;
-    let mut i = 0;
-    while i < last {
-        part[i] = part[i + ROW_WIDTH];
-        i += 1;
-    }
-    clear(&mut part[last..]);
+    part.copy_within(ROW_WIDTH.., 0);
+    part[last..].fill(0);
 }
 
 // Adds a row where there is room for it.
-pub fn add_row(table: &mut [u16], row: Row)
+pub fn add_row(table: &mut Area, row: Row)
     requires { Roomy table.old }
     ensures { table.new ≡ edited table.old (Add row) }
 {
     let nodes = table[0];
     let rows = table[1];
-    step_loads(table, nodes, row, true);
+    raise_loads(table, nodes, row);
     put_row(table, rows as usize, row);
     table[1] = rows + 1;
 }
 
 // Changes a row that is there.
-pub fn change_row(table: &mut [u16], number: u16, row: Row)
+pub fn change_row(table: &mut Area, number: u16, row: Row)
     requires { There table.old number }
     ensures { table.new ≡ edited table.old (Change number row) }
 {
     let nodes = table[0];
     let i = number as usize - 1;
     let old = row_in(table, i);
-    step_loads(table, nodes, old, false);
-    step_loads(table, nodes, row, true);
+    lower_loads(table, nodes, old);
+    raise_loads(table, nodes, row);
     put_row(table, i, row);
 }
 
 // Removes a row that is there.
-pub fn remove_row(table: &mut [u16], number: u16)
+pub fn remove_row(table: &mut Area, number: u16)
     requires { There table.old number }
     ensures { table.new ≡ edited table.old (Remove number) }
 {
@@ -132,8 +131,8 @@ pub fn remove_row(table: &mut [u16], number: u16)
     let i = number as usize - 1;
     let at = ROWS_BEGIN + ROW_WIDTH * i;
     let end = ROWS_BEGIN + ROW_WIDTH * rows as usize;
-    let old = row_in(table, i);
-    step_loads(table, nodes, old, false);
+    let gone = row_in(table, i);
+    lower_loads(table, nodes, gone);
     close_gap(&mut table[at..end]);
     table[1] = rows - 1;
 }

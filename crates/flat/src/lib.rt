@@ -7,11 +7,10 @@ ghost use Rattle.flat.specs.Flat.{flat_of, flat_reading, flat_writing, flat_verd
 ghost use Rattle.flat.specs.Flat.{flat_sentence, flat_reason};
 
 use area::LinkLoad;
-use edit::Entry;
-use planner::Answer;
-use reason::Reason;
-use table::Verdict;
-use text::{Reading, Writing};
+use jam::Jam;
+use planner::Reply;
+use table::{Refusal, Row};
+use text::Header;
 
 // The planner's answer as plain numbers: `number` is 0 for an acceptance and a refusal's own otherwise. A late table
 // has `looks` too.
@@ -104,172 +103,197 @@ pub struct SentenceAnswer {
     pub length: usize,
 }
 
-// An answer and the looks that it took, flattened.
-pub fn flat_answer(a: Answer, looks: u32) -> PlanAnswer
-    ensures { result ≡ flat_of a looks }
-{
-    match a {
-        Answer::Accepted(s) => PlanAnswer {
-            number: 0,
-            row: 0,
-            slot: 0,
-            last: s.last.0,
-            sends: s.sends,
-            sum: s.sum,
-            looks,
-            mean: s.mean,
-            share: s.share,
-        },
-        Answer::Refused(r) => PlanAnswer {
-            number: r.number,
-            row: r.row,
-            slot: r.slot.0,
-            last: 0,
-            sends: 0,
-            sum: 0,
-            looks,
-            mean: 0.0,
-            share: 0.0,
-        },
+// An answer and the looks that it took.
+impl From<Reply> for PlanAnswer {
+    ghost from_gives = { λ reply r. r ≡ flat_of reply.answer reply.looks };
+
+    #[tactic(auto, unfolding(crate::specs::Flat::flat_of))]
+    fn from(reply: Reply) -> PlanAnswer {
+        let looks = reply.looks;
+        match reply.answer {
+            Ok(s) => PlanAnswer {
+                number: 0,
+                row: 0,
+                slot: 0,
+                last: s.last.0,
+                sends: s.sends,
+                sum: s.sum,
+                looks,
+                mean: s.mean,
+                share: s.share,
+            },
+            Err(r) => PlanAnswer {
+                number: r.number,
+                row: r.row,
+                slot: r.slot.0,
+                last: 0,
+                sends: 0,
+                sum: 0,
+                looks,
+                mean: 0.0,
+                share: 0.0,
+            },
+        }
     }
 }
 
-// Why a table is late, flattened.
-pub fn flat_reason(a: Reason) -> ReasonAnswer
-    ensures { result ≡ flat_reason a }
-{
-    match a {
-        Reason::Jammed(jam) => ReasonAnswer {
-            number: 0,
-            row: 0,
-            slot: 0,
-            cells: jam.cells,
-            link: jam.link.0,
-            before: jam.before.0,
-        },
-        Reason::Clear => ReasonAnswer {
-            number: 0,
-            row: 0,
-            slot: 0,
-            cells: 0,
-            link: 0,
-            before: 0,
-        },
-        Reason::Refused(why) => ReasonAnswer {
-            number: why.number,
-            row: why.row,
-            slot: why.slot.0,
-            cells: 0,
-            link: 0,
-            before: 0,
-        },
+// Why a table is late.
+impl From<Result<Option<Jam>, Refusal>> for ReasonAnswer {
+    ghost from_gives = { λ a r. r ≡ flat_reason a };
+
+    #[tactic(auto, unfolding(crate::specs::Flat::flat_reason))]
+    fn from(a: Result<Option<Jam>, Refusal>) -> ReasonAnswer {
+        match a {
+            Ok(Some(jam)) => ReasonAnswer {
+                number: 0,
+                row: 0,
+                slot: 0,
+                cells: jam.cells,
+                link: jam.link.0,
+                before: jam.before.0,
+            },
+            Ok(None) => ReasonAnswer {
+                number: 0,
+                row: 0,
+                slot: 0,
+                cells: 0,
+                link: 0,
+                before: 0,
+            },
+            Err(why) => ReasonAnswer {
+                number: why.number,
+                row: why.row,
+                slot: why.slot.0,
+                cells: 0,
+                link: 0,
+                before: 0,
+            },
+        }
     }
 }
 
-// What reading comes to, flattened.
-pub fn flat_reading(a: Reading) -> ReadAnswer
-    ensures { result ≡ flat_reading a }
-{
-    match a {
-        Reading::Read(h) => ReadAnswer {
-            number: 0,
-            line: 0,
-            nodes: h.nodes,
-            rows: h.rows,
-        },
-        Reading::Refused(refusal) => ReadAnswer {
-            number: refusal.number,
-            line: refusal.row,
-            nodes: 0,
-            rows: 0,
-        },
+// What reading comes to.
+impl From<Result<Header, Refusal>> for ReadAnswer {
+    ghost from_gives = { λ a r. r ≡ flat_reading a };
+
+    #[tactic(auto, unfolding(crate::specs::Flat::flat_reading))]
+    fn from(a: Result<Header, Refusal>) -> ReadAnswer {
+        match a {
+            Ok(h) => ReadAnswer {
+                number: 0,
+                line: 0,
+                nodes: h.nodes,
+                rows: h.rows,
+            },
+            Err(refusal) => ReadAnswer {
+                number: refusal.number,
+                line: refusal.row,
+                nodes: 0,
+                rows: 0,
+            },
+        }
     }
 }
 
-// What writing comes to, flattened.
-pub fn flat_writing(a: Writing) -> WriteAnswer
-    ensures { result ≡ flat_writing a }
-{
-    match a {
-        Writing::Written(length) => WriteAnswer { number: 0, length },
-        Writing::Refused(refusal) => WriteAnswer {
-            number: refusal.number,
-            length: 0,
-        },
+// What writing comes to.
+impl From<Result<usize, Refusal>> for WriteAnswer {
+    ghost from_gives = { λ a r. r ≡ flat_writing a };
+
+    #[tactic(auto, unfolding(crate::specs::Flat::flat_writing))]
+    fn from(a: Result<usize, Refusal>) -> WriteAnswer {
+        match a {
+            Ok(length) => WriteAnswer { number: 0, length },
+            Err(refusal) => WriteAnswer {
+                number: refusal.number,
+                length: 0,
+            },
+        }
     }
 }
 
-// A verdict, flattened.
-pub fn flat_verdict(a: Verdict) -> EditAnswer
-    ensures { result ≡ flat_verdict a }
-{
-    match a {
-        Verdict::Good => EditAnswer {
-            number: 0,
-            row: 0,
-            slot: 0,
-        },
-        Verdict::Refused(refusal) => EditAnswer {
-            number: refusal.number,
-            row: refusal.row,
-            slot: refusal.slot.0,
-        },
+// A verdict.
+impl From<Result<(), Refusal>> for EditAnswer {
+    ghost from_gives = { λ a r. r ≡ flat_verdict a };
+
+    #[tactic(auto, unfolding(crate::specs::Flat::flat_verdict))]
+    fn from(a: Result<(), Refusal>) -> EditAnswer {
+        match a {
+            Ok(()) => EditAnswer {
+                number: 0,
+                row: 0,
+                slot: 0,
+            },
+            Err(refusal) => EditAnswer {
+                number: refusal.number,
+                row: refusal.row,
+                slot: refusal.slot.0,
+            },
+        }
     }
 }
 
-// A row that was asked for, flattened.
-pub fn flat_entry(a: Entry) -> RowAnswer
-    ensures { result ≡ flat_entry a }
-{
-    match a {
-        Entry::Shown(row) => RowAnswer {
-            number: 0,
-            row: 0,
-            slot: 0,
-            src: row.src,
-            dst: row.dst,
-            len: row.len,
-            due: row.due,
-        },
-        Entry::Refused(refusal) => RowAnswer {
-            number: refusal.number,
-            row: refusal.row,
-            slot: refusal.slot.0,
-            src: 0,
-            dst: 0,
-            len: 0,
-            due: 0,
-        },
+// A row that was asked for.
+impl From<Result<Row, Refusal>> for RowAnswer {
+    ghost from_gives = { λ a r. r ≡ flat_entry a };
+
+    #[tactic(auto, unfolding(crate::specs::Flat::flat_entry))]
+    fn from(a: Result<Row, Refusal>) -> RowAnswer {
+        match a {
+            Ok(row) => RowAnswer {
+                number: 0,
+                row: 0,
+                slot: 0,
+                src: row.src,
+                dst: row.dst,
+                len: row.len,
+                due: row.due,
+            },
+            Err(refusal) => RowAnswer {
+                number: refusal.number,
+                row: refusal.row,
+                slot: refusal.slot.0,
+                src: 0,
+                dst: 0,
+                len: 0,
+                due: 0,
+            },
+        }
     }
 }
 
-// What writing a sentence or a label comes to, flattened.
-pub fn flat_sentence(a: Writing) -> SentenceAnswer
-    ensures { result ≡ flat_sentence a }
-{
-    match a {
-        Writing::Written(length) => SentenceAnswer {
-            number: 0,
-            row: 0,
-            slot: 0,
-            length,
-        },
-        Writing::Refused(refusal) => SentenceAnswer {
-            number: refusal.number,
-            row: refusal.row,
-            slot: refusal.slot.0,
-            length: 0,
-        },
+// What writing a sentence or a label comes to.
+impl From<Result<usize, Refusal>> for SentenceAnswer {
+    ghost from_gives = { λ a r. r ≡ flat_sentence a };
+
+    #[tactic(auto, unfolding(crate::specs::Flat::flat_sentence))]
+    fn from(a: Result<usize, Refusal>) -> SentenceAnswer {
+        match a {
+            Ok(length) => SentenceAnswer {
+                number: 0,
+                row: 0,
+                slot: 0,
+                length,
+            },
+            Err(refusal) => SentenceAnswer {
+                number: refusal.number,
+                row: refusal.row,
+                slot: refusal.slot.0,
+                length: 0,
+            },
+        }
     }
 }
 
-// A link and its load, flattened.
-pub fn flat_link(a: LinkLoad) -> LinkAnswer
-    ensures { result ≡ flat_link a }
-{
-    let link = a.link;
-    LinkAnswer {
-        link: link.0,
-        load: a.load,
+// A link and its load.
+impl From<LinkLoad> for LinkAnswer {
+    ghost from_gives = { λ a r. r ≡ flat_link a };
+
+    #[tactic(auto, unfolding(crate::specs::Flat::flat_link))]
+    fn from(a: LinkLoad) -> LinkAnswer {
+        let link = a.link;
+        LinkAnswer {
+            link: link.0,
+            load: a.load,
+        }
     }
 }

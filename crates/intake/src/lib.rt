@@ -9,7 +9,8 @@ use std::io;
 use std::io::Read;
 
 // Fills the area from its front until it is full or the input ends, and gives how many bytes came. A read that fails ends
-// it: what came before then stands in the front of the area, though it is not said how much that is.
+// it: what came before then stands in the front of the area, though it is not said how much that is. A `while`, since how
+// many reads come is known to nobody, and std's own loops over a reader say nothing of what came before an error.
 pub fn fill<R: Read>(reader: &mut R, area: &mut [u8]) -> io::Result<usize>
     ensures length { length area.new ≡ length area.old }
     ensures within { ReadsAtMost result area.new }

@@ -18,9 +18,10 @@ use Rattle.cells.specs.Steps.{Laden}
 use Rattle.cells.proofs.Seats.{first_cell, Seat, seat, cell_known, rows_apart}
 use Rattle.best.proofs.Order.{links_long, laid_on_ring, seat_owner, seat_links, seat_dst, seat_due}
 use Rattle.best.proofs.Best.{cell_dues_lem, rows_late_iff_none}
-use Rattle.jam.specs.Jam.{crosses_before, how_many, overfull}
+use Rattle.jam.specs.Jam.{crosses_before, how_many, crossing, overfull, the_jam}
 use Rattle.jam.specs.Members.{of_row}
-use Rattle.jam.proofs.Links.{Has, still_overfull, fewest, late_iff_found}
+use Rattle.jam.proofs.Search.{some_found}
+use Rattle.jam.proofs.Links.{Has, still_overfull, fewest_found, late_iff_found}
 
 -- One that passes the test is counted.
 some_counted : (m : ℕ) (test : ℕ → Bool) (c : ℕ) → c < m → test c ≡ true → 0 < how_many m test
@@ -154,5 +155,7 @@ module _ {F : Freight} {p b : ℕ} {F₂ : Freight} {at : ℕ → ℕ} (among : 
       let ring = laid_on_ring F₂ laden in
       let in_time = cell_dues_lem {F = F₂} {slots = slots} laden dues in
       let within : p < (cell_traffic F₂).nodes = unfold cell_traffic in rw among.same_ring inside in
-      let found = fewest ring in_time p b within (still_overfull has e) in
-      (rows_late_iff_none {F = F₂} {slots = slots} laden dues).0 ((late_iff_found ring in_time).1 found.0)
+      let found = fewest_found ring in_time p b within (still_overfull has e) in
+      let some = some_found (the_jam (cell_traffic F₂) (cell_links F₂) slots)
+      (crossing (cell_traffic F₂) (cell_links F₂) p b) found in
+      (rows_late_iff_none {F = F₂} {slots = slots} laden dues).0 ((late_iff_found ring in_time).1 some)

@@ -3,20 +3,25 @@
 use mathlib.Core.Path.{◌≡◌, refl}
 use Prim.Native.Nat.{ℕ}
 use mathlib.Core.List.{List, [], ◌∷◌, map}
+use lib.ListN.{length, replicate}
+use Rattle.std.proofs.Common.{Option, None, Some}
 use Rattle.lists.specs.Lists.{largest}
 use Rattle.ring.specs.Ring.{distance}
 use Rattle.cells.specs.Rows.{Freight, freight, per_cell, owners_of, owners, laid_out, cell_links}
 use Rattle.cells.specs.Cells.{dues_of, cell_dues, cell_traffic}
 use Rattle.jam.specs.declared.Jam.{Jam}
-use Rattle.jam.specs.Jam.{must_cross, crosses_before, how_many, crossing, overfull, no_jam, jam}
+use Rattle.jam.specs.Jam.{must_cross, crosses_before, how_many, crossing, overfull, jam}
 use Rattle.jam.specs.Jam.{first_from, first_in, fewer, fewest_below, the_jam}
 use Rattle.jam.specs.Members.{row_jam, of_row, members_of}
 
+-- Each row's cells in the jam, zeros where there is none.
+abbrev marked : Freight → Option Jam → List ℕ
+marked F None = replicate (length F.len) 0
+marked F (Some found) = members_of F found.link.0 found.before.0
+
 -- The jam of a table, and each row's cells in it.
-abbrev told : Freight → Jam × List ℕ
-told F =
-    let found = row_jam F (largest F.due) in
-    (found, members_of F found.link.0 found.before.0)
+abbrev told : Freight → Option Jam × List ℕ
+told F = let found = row_jam F (largest F.due) in (found, marked F found)
 
 -- Destinations, lengths, due slots and links to go. Three cells for two slots of link 1; one that is too far at once;
 -- two from node 0 and one from node 1 that just fit; two for one slot of link 0, and a third row that is not among
@@ -33,15 +38,15 @@ jams_computed : map told (
     ∷ freight 3 (1 ∷ []) (1 ∷ []) (2 ∷ []) (3 ∷ [])
     ∷ freight 4 [] [] [] []
     ∷ [])
-    ≡ ((jam 3 1 2, 1 ∷ 1 ∷ 1 ∷ [])
-    ∷ (jam 1 0 0, 1 ∷ [])
-    ∷ (no_jam, 0 ∷ 0 ∷ 0 ∷ [])
-    ∷ (jam 2 0 1, 1 ∷ 0 ∷ 1 ∷ [])
-    ∷ (jam 2 0 1, 1 ∷ 1 ∷ 0 ∷ 0 ∷ [])
-    ∷ (jam 2 2 1, 0 ∷ 0 ∷ 0 ∷ 1 ∷ 1 ∷ [])
-    ∷ (jam 3 0 2, 2 ∷ 1 ∷ [])
-    ∷ (jam 1 1 0, 1 ∷ [])
-    ∷ (no_jam, [])
+    ≡ ((Some (jam 3 1 2), 1 ∷ 1 ∷ 1 ∷ [])
+    ∷ (Some (jam 1 0 0), 1 ∷ [])
+    ∷ (None, 0 ∷ 0 ∷ 0 ∷ [])
+    ∷ (Some (jam 2 0 1), 1 ∷ 0 ∷ 1 ∷ [])
+    ∷ (Some (jam 2 0 1), 1 ∷ 1 ∷ 0 ∷ 0 ∷ [])
+    ∷ (Some (jam 2 2 1), 0 ∷ 0 ∷ 0 ∷ 1 ∷ 1 ∷ [])
+    ∷ (Some (jam 3 0 2), 2 ∷ 1 ∷ [])
+    ∷ (Some (jam 1 1 0), 1 ∷ [])
+    ∷ (None, [])
     ∷ [])
 unfolding largest distance per_cell owners_of owners laid_out cell_links dues_of cell_dues cell_traffic must_cross crosses_before
     how_many crossing overfull first_from first_in fewer fewest_below the_jam row_jam of_row members_of

@@ -2,20 +2,23 @@
 -- slots before it.
 --     starts_at_once        where too many cells cannot be at a link for k slots, a link further back is overfull
 --     overfull_none         where a link is overfull no legal schedule meets the table
---     fewest                where a link is overfull the search finds a jam of no more cells
+--     fewest                where a link is overfull the search finds a jam that has cells, and no more
+--     found_cells           a jam that is found has a cell
 --     late_iff_found        the rule's run ends late just where the search finds a jam
 --     Has                   the cells of an overfull link are cells of another table too
 --     still_overfull        so the link is overfull there too
 -- Assumes nothing.
-use mathlib.Core.Path.{◌≡◌, refl, ◌∙◌}
+use mathlib.Core.Path.{◌≡◌, refl, ◌∙◌, subst}
 use mathlib.Core.Logic.{◌↔◌}
 use mathlib.Core.Bool.{true}
 use Prim.Native.Nat.{ℕ, zero, suc, ◌+◌, ◌-◌, ◌≤◌, ◌<◌}
 use native.Mathlib.Omega.{arith, by_contra}
-use native.Mathlib.Decide.{dec_le, dec_lt}
+use native.Mathlib.Decide.{dec_le}
 use mathlib.Core.List.{List}
 use borrow.Author.Tests.{ltb-true, lt-ltb}
 use lib.ListN.{length, get_or}
+use Rattle.std.proofs.Common.{Option, None, Some, IsSome, IsSomeAnd}
+use Rattle.lists.proofs.Truth.{differ}
 use Rattle.slack.specs.Slack.{Traffic, OnRing, state_at, stop_of}
 use Rattle.slack.proofs.Ending.{stop_first}
 use Rattle.slack.proofs.Rule.{state_on_ring}
@@ -28,7 +31,7 @@ use Rattle.optimal.proofs.Optimal.{ring_window_after, window_not_late, window_of
 use Rattle.jam.specs.declared.Jam.{Jam}
 use Rattle.jam.specs.Jam.{crosses_before, crossing, overfull, the_jam}
 use Rattle.jam.proofs.Tally.{Crosses, crosses, crosses_must, must_crosses, crossing_is}
-use Rattle.jam.proofs.Search.{NoMoreThan, jam_found, jam_fewest}
+use Rattle.jam.proofs.Search.{NoMoreThan, no_more_than, HasCells, some_found, jam_found, jam_fewest}
 
 module _ {T : Traffic} {start : List ℕ} (ring : OnRing T start) where
   over_more : (p b : ℕ) → overfull T start p b ≡ true → b < count (length start) (crosses T start p 0 b)
@@ -90,7 +93,7 @@ module _ {T : Traffic} {start : List ℕ} (ring : OnRing T start) where
               (omega (arith, n.0), omega (arith, n.1)))
 
   module _ {slots : ℕ} (dues : (i : ℕ) → i < length start → get_or T.due i 0 ≤ slots) where
-    abbrev found : Jam
+    abbrev found : Option Jam
     found = the_jam T start slots
 
     -- Where a link is overfull no legal schedule meets the table.
@@ -104,8 +107,8 @@ module _ {T : Traffic} {start : List ℕ} (ring : OnRing T start) where
         omega (arith, window p 0 b inside, over_more p b e)
 
     -- Where a link is overfull before any slot, a jam is found, of no more cells.
-    pub fewest : (p b : ℕ) → p < T.nodes → overfull T start p b ≡ true → NoMoreThan found (crossing T start p b)
-    fewest p b inside e = go (dec_le b slots)
+    pub fewest_found : (p b : ℕ) → p < T.nodes → overfull T start p b ≡ true → NoMoreThan found (crossing T start p b)
+    fewest_found p b inside e = go (dec_le b slots)
       where
         no_more : count (length start) (crosses T start p 0 b) ≤ count (length start) (crosses T start p 0 slots)
         no_more = count_within (crosses T start p 0 b) (crosses T start p 0 slots) (length start) (λ i known m.
@@ -116,42 +119,71 @@ module _ {T : Traffic} {start : List ℕ} (ring : OnRing T start) where
         go (no f) =
             let over = more_over p slots (omega (arith, over_more p b e, no_more)) in
             let u = jam_fewest T start slots p slots inside (omega arith) over (later_more p slots) in
-            (u.0, omega (arith, u.1, later_more p b slots (omega arith)))
+            no_more_than found _ _ (later_more p b slots (omega arith)) u
+
+    -- A jam that is found has a cell.
+    pub found_cells : IsSome found → HasCells found
+    found_cells = go found refl
+      where
+        go : (o : Option Jam) → found ≡ o → IsSome o → HasCells o
+        go None e some = absurd (differ some)
+        go (Some best) e some =
+            let it = jam_found T start slots e in
+            let p = best.link.0 in
+            let b = best.before.0 in
+            omega (arith, it.cells_are, crossing_is T start p b, over_more p b it.too_many)
+
+    -- So it has a cell, and no overfull link has fewer.
+    pub fewest : (p b : ℕ) → p < T.nodes → overfull T start p b ≡ true
+        → IsSomeAnd found (λ best. (0 < best.cells) × (best.cells ≤ crossing T start p b))
+    fewest p b inside e =
+        let more = fewest_found p b inside e in both found (found_cells (some_found found _ more)) more
+      where
+        both : (o : Option Jam) → HasCells o → NoMoreThan o (crossing T start p b)
+            → IsSomeAnd o (λ best. (0 < best.cells) × (best.cells ≤ crossing T start p b))
+        both None h u = u
+        both (Some best) h u = (h, u)
 
     -- Where no jam is found every window holds at the start.
-    found_else_window : found.cells ≡ 0 → RingWindow T 0 start
+    found_else_window : found ≡ None → RingWindow T 0 start
     found_else_window nothing p k b inside =
         by_contra (count (length start) (crosses T start p k b)) (b - (0 + k))
         (λ l. none (starts_at_once p k b inside (omega arith)))
       where
         none : (q : ℕ) × (q < T.nodes) × (overfull T start q (b - k) ≡ true) → ⊥
-        none (q, stands, e) = omega (arith, (fewest q (b - k) stands e).0)
+        none (q, stands, e) =
+            let P : Option Jam → Type 0 = λ j. NoMoreThan j (crossing T start q (b - k)) in
+            subst P nothing (fewest_found q (b - k) stands e)
 
     -- Where the rule's run ends late, a jam is found.
-    late_found : ((stop_of T start slots).row ≡ 0 → ⊥) → 0 < found.cells
+    late_found : ((stop_of T start slots).row ≡ 0 → ⊥) → IsSome found
     unfolding state_at
-    late_found late = go (dec_lt 0 found.cells)
+    late_found late = go found refl
       where
-        windows : found.cells ≡ 0 → (t : ℕ) → RingWindow T t (state_at T start t)
+        windows : found ≡ None → (t : ℕ) → RingWindow T t (state_at T start t)
         windows nothing zero = found_else_window nothing
         windows nothing (suc t) =
             ring_window_after T t (state_at T start t) (state_on_ring T start ring t) (windows nothing t)
 
-        go : Dec (0 < found.cells) → 0 < found.cells
-        go (yes d) = d
-        go (no d) =
+        go : (o : Option Jam) → found ≡ o → IsSome o
+        go (Some jam) e = refl
+        go None e =
             let t = (stop_of T start slots).slot.0 in
             let on_ring = state_on_ring T start ring t in
-            let in_time = window_not_late T t (state_at T start t) on_ring (windows (omega arith) t) in
+            let in_time = window_not_late T t (state_at T start t) on_ring (windows e t) in
             absurd (late ((stop_first T start slots).row_is ∙ in_time))
 
-    found_none : 0 < found.cells → (schedule : List ℕ) → Schedule T start slots schedule → ⊥
-    found_none some =
-        let it = jam_found T start slots some in
-        overfull_none found.link.0 found.before.0 it.link_inside it.too_many
+    found_none : IsSome found → (schedule : List ℕ) → Schedule T start slots schedule → ⊥
+    found_none = go found refl
+      where
+        go : (o : Option Jam) → found ≡ o → IsSome o → (schedule : List ℕ) → Schedule T start slots schedule → ⊥
+        go None e some = absurd (differ some)
+        go (Some jam) e some =
+            let it = jam_found T start slots e in
+            overfull_none jam.link.0 jam.before.0 it.link_inside it.too_many
 
     -- The rule's run ends late just where a jam is found.
-    pub late_iff_found : ((stop_of T start slots).row ≡ 0 → ⊥) ↔ (0 < found.cells)
+    pub late_iff_found : ((stop_of T start slots).row ≡ 0 → ⊥) ↔ IsSome found
     late_iff_found = (late_found, λ some. (late_iff_none ring dues).1 (found_none some))
 
 -- ---- the cells of an overfull link in another table

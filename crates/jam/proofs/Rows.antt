@@ -3,7 +3,7 @@
 --     links_theorem      there is one exactly when no link is overfull before any slot
 --     members_sum        the cells of all rows in a jam are as many as it says
 -- Assumes nothing.
-use mathlib.Core.Path.{◌≡◌, ◌∙◌, ap}
+use mathlib.Core.Path.{◌≡◌, refl, ◌∙◌, ap}
 use mathlib.Core.Logic.{◌↔◌}
 use Prim.Native.Nat.{ℕ, zero, suc, ◌≤◌, ◌<◌}
 use native.Mathlib.Nat.{mul-zero}
@@ -14,7 +14,9 @@ use mathlib.Core.List.{List}
 use borrow.Author.Tests.{lt-ltb, ltb-true}
 use lib.Dec.{eqb, eqb-zero-suc, eqb-suc-zero, eqb-suc-suc}
 use lib.ListN.{length, get_or}
+use Rattle.std.proofs.Common.{Option, None, Some, IsSome}
 use Rattle.lists.specs.Lists.{build, total}
+use Rattle.lists.proofs.Truth.{differ}
 use Rattle.lists.proofs.Build.{build_ext}
 use Rattle.lists.proofs.Sums.{total_both, total_same}
 use Rattle.slack.specs.Slack.{Traffic, OnRing, stop_of}
@@ -24,10 +26,11 @@ use Rattle.cells.specs.Steps.{Laden}
 use Rattle.cells.proofs.Seats.{seat}
 use Rattle.best.proofs.Order.{links_long, laid_on_ring, seat_owner}
 use Rattle.best.proofs.Best.{cell_dues_lem, told_is_schedule, rows_late_iff_none}
+use Rattle.jam.specs.declared.Jam.{Jam}
 use Rattle.jam.specs.Jam.{crosses_before, how_many, crossing, overfull, the_jam}
 use Rattle.jam.specs.Members.{row_jam, of_row, members_of}
-use Rattle.jam.proofs.Search.{jam_found}
-use Rattle.jam.proofs.Links.{fewest, late_iff_found}
+use Rattle.jam.proofs.Search.{HasCells, has_some, some_found, jam_found}
+use Rattle.jam.proofs.Links.{fewest_found, found_cells, late_iff_found}
 
 module _ {F : Freight} {slots : ℕ} (laden : Laden F)
     (dues : (i : ℕ) → i < length F.len → get_or F.due i 0 ≤ slots) where
@@ -44,12 +47,12 @@ module _ {F : Freight} {slots : ℕ} (laden : Laden F)
   in_time = cell_dues_lem {F = F} {slots = slots} laden dues
 
   -- No schedule of rows meets the table exactly when there is a jam.
-  pub late_iff_jam : ((s : List ℕ) → RowSchedule F slots s → ⊥) ↔ (0 < (row_jam F slots).cells)
+  pub late_iff_jam : ((s : List ℕ) → RowSchedule F slots s → ⊥) ↔ HasCells (row_jam F slots)
   unfolding row_jam
   late_iff_jam =
       let rule = rows_late_iff_none {F = F} {slots = slots} laden dues in
       let found = late_iff_found ring in_time in
-      (λ none. found.0 (rule.1 none), λ jammed. rule.0 (found.1 jammed))
+      (λ none. found_cells ring in_time (found.0 (rule.1 none)), λ jammed. rule.0 (found.1 (has_some _ jammed)))
 
   -- A table has a legal schedule that meets it exactly when, for every link and every slot, no more cells must cross
   -- the link before the slot than there are slots before it. The rule is not mentioned.
@@ -61,20 +64,24 @@ module _ {F : Freight} {slots : ℕ} (laden : Laden F)
       room : (s : List ℕ) → RowSchedule F slots s → (p b : ℕ) → p < F.nodes → crossing T start p b ≤ b
       room s meeting p b inside =
           by_contra (crossing T start p b) b (λ more.
-          let found = fewest ring in_time p b inside (lt-ltb b (crossing T start p b) more) in
-          late_iff_jam.1 found.0 s meeting)
+          let found = fewest_found ring in_time p b inside (lt-ltb b (crossing T start p b) more) in
+          late_iff_jam.1 (found_cells ring in_time (some_found (row_jam F slots) (crossing T start p b) found)) s meeting)
 
       planned : ((p b : ℕ) → p < F.nodes → crossing T start p b ≤ b) → (s : List ℕ) × RowSchedule F slots s
-      planned room = go (ℕ_discrete (stop_of T start slots).row 0)
+      planned room = go (the_jam T start slots) refl
         where
-          go : Dec ((stop_of T start slots).row ≡ 0) → (s : List ℕ) × RowSchedule F slots s
-          go (yes e) = (row_plan F slots, told_is_schedule {F = F} {slots = slots} laden dues e)
-          go (no late) =
-              let p = (the_jam T start slots).link.0 in
-              let b = (the_jam T start slots).before.0 in
-              let found = jam_found T start slots ((late_iff_found ring in_time).0 late) in
+          go : (o : Option Jam) → the_jam T start slots ≡ o → (s : List ℕ) × RowSchedule F slots s
+          go (Some jam) e =
+              let p = jam.link.0 in
+              let b = jam.before.0 in
+              let found = jam_found T start slots e in
               let more = ltb-true b (crossing T start p b) found.too_many in
               absurd (omega (arith, more, room p b found.link_inside))
+          go None e = (row_plan F slots, told_is_schedule {F = F} {slots = slots} laden dues (in_time_stop (ℕ_discrete (stop_of T start slots).row 0)))
+            where
+              in_time_stop : Dec ((stop_of T start slots).row ≡ 0) → (stop_of T start slots).row ≡ 0
+              in_time_stop (yes z) = z
+              in_time_stop (no late) = absurd (let some = (late_iff_found ring in_time).0 late in differ (rw e at some))
 
 -- ---- the members
 

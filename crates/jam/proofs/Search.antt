@@ -1,7 +1,8 @@
 -- What the search over all links and slots finds is an overfull link, and no overfull link has fewer cells.
 --     Found           what is known of a jam that is found
---     jam_found       a jam with cells is one
---     NoMoreThan      a jam has cells, and no more than so many
+--     jam_found       the jam that is found is one
+--     NoMoreThan      there is a jam, and it has no more than so many cells
+--     HasCells        there is a jam, and it has a cell
 --     jam_fewest      where a link is overfull the search finds a jam of no more cells
 -- Assumes nothing.
 use mathlib.Core.Path.{◌≡◌, refl, ◌∙◌, sym, subst}
@@ -10,58 +11,60 @@ use Prim.Native.Nat.{ℕ, zero, suc, ◌+◌, ◌≤◌, ◌<◌}
 use native.Mathlib.Omega.{arith}
 use native.Mathlib.Decide.{ℕ_discrete}
 use mathlib.Core.List.{List}
-use borrow.Author.Tests.{ltb-true, ltb-false, eq-eqb, ne_eqb}
+use borrow.Author.Tests.{ltb-true, ltb-false}
 use lib.Dec.{ltb}
+use Rattle.std.proofs.Common.{Option, None, Some, IsSome, IsSomeAnd, IfSome}
 use Rattle.lists.proofs.Truth.{differ}
 use Rattle.slack.specs.Slack.{Traffic}
 use Rattle.jam.specs.declared.Jam.{Jam}
 use Rattle.jam.specs.Jam.{crossing, overfull, jam, first_from, first_in, fewer, fewest_below, the_jam}
 
--- `best` is a jam of no more than c cells.
-abbrev pub NoMoreThan : Jam → ℕ → Type 0
-NoMoreThan best c = (0 < best.cells) × (best.cells ≤ c)
+-- There is a jam, of no more than c cells.
+abbrev pub NoMoreThan : Option Jam → ℕ → Type 0
+NoMoreThan found c = IsSomeAnd found (λ best. best.cells ≤ c)
 
--- Which of two jams is taken, and what is known of the other.
-data Fewer (best next : Jam) : Type 0 where
-  takes : fewer best next ≡ next → 0 < next.cells → (0 < best.cells → next.cells ≤ best.cells) → Fewer best next
-  keeps : fewer best next ≡ best → (0 < next.cells → (0 < best.cells) × (best.cells ≤ next.cells)) → Fewer best next
+-- Where c is no more than d.
+pub no_more_than : (found : Option Jam) (c d : ℕ) → c ≤ d → NoMoreThan found c → NoMoreThan found d
+no_more_than None c d l u = u
+no_more_than (Some best) c d l u = omega arith
 
-which : (best next : Jam) → Fewer best next
+-- There is a jam, and it has a cell.
+abbrev pub HasCells : Option Jam → Type 0
+HasCells found = IsSomeAnd found (λ best. 0 < best.cells)
+
+pub has_some : (found : Option Jam) → HasCells found → IsSome found
+has_some None u = absurd u
+has_some (Some best) u = refl
+
+-- There is a jam.
+pub some_found : (found : Option Jam) (c : ℕ) → NoMoreThan found c → IsSome found
+some_found None c u = absurd u
+some_found (Some best) c u = refl
+
+-- A property of both jams is one of the fewer.
+one_of : (b : Bool) (best next : Jam) (P : Jam → Type 0) → P best → P next → P (cond b next best)
+one_of true best next P old new = new
+one_of false best next P old new = old
+
+fewer_old : (best next : Option Jam) (c : ℕ) → NoMoreThan best c → NoMoreThan (fewer best next) c
 unfolding fewer
-which best next = go (ltb 0 next.cells) refl (ltb next.cells best.cells) refl (ℕ_discrete best.cells 0)
+fewer_old None next c u = absurd u
+fewer_old (Some best) None c u = u
+fewer_old (Some best) (Some next) c u = go (ltb next.cells best.cells) refl
   where
-    go : (s : Bool) → ltb 0 next.cells ≡ s → (f : Bool) → ltb next.cells best.cells ≡ f
-        → Dec (best.cells ≡ 0) → Fewer best next
-    go true e f h (yes z) =
-        takes (rw (e, eq-eqb best.cells 0 z)) (ltb-true 0 next.cells e) (λ l. absurd (omega arith))
-    go true e true h (no z) =
-        takes (rw (e, ne_eqb best.cells 0 z, h)) (ltb-true 0 next.cells e)
-        (λ l. omega (arith, ltb-true next.cells best.cells h))
-    go true e false h (no z) =
-        keeps (rw (e, ne_eqb best.cells 0 z, h)) (λ l. (omega arith, ltb-false next.cells best.cells h))
-    go false e f h z =
-        keeps (rw e) (λ l. absurd (omega (arith, ltb-false 0 next.cells e)))
+    go : (f : Bool) → ltb next.cells best.cells ≡ f → (cond f next best).cells ≤ c
+    go true e = omega (arith, ltb-true next.cells best.cells e)
+    go false e = u
 
-fewer_old : (best next : Jam) (c : ℕ) → NoMoreThan best c → NoMoreThan (fewer best next) c
-fewer_old best next c u = go (which best next)
+fewer_new : (best next : Option Jam) (c : ℕ) → NoMoreThan next c → NoMoreThan (fewer best next) c
+unfolding fewer
+fewer_new best None c u = absurd u
+fewer_new None (Some next) c u = u
+fewer_new (Some best) (Some next) c u = go (ltb next.cells best.cells) refl
   where
-    go : Fewer best next → NoMoreThan (fewer best next) c
-    go (takes e some h) = rw e (some, omega (arith, h u.0, u.1))
-    go (keeps e h) = rw e u
-
-fewer_new : (best next : Jam) (c : ℕ) → NoMoreThan next c → NoMoreThan (fewer best next) c
-fewer_new best next c u = go (which best next)
-  where
-    go : Fewer best next → NoMoreThan (fewer best next) c
-    go (takes e some h) = rw e u
-    go (keeps e h) = rw e ((h u.0).0, omega (arith, (h u.0).1, u.1))
-
-fewer_either : (best next : Jam) (P : Jam → Type 0) → P best → P next → P (fewer best next)
-fewer_either best next P a b = go (which best next)
-  where
-    go : Fewer best next → P (fewer best next)
-    go (takes e some h) = rw e b
-    go (keeps e h) = rw e a
+    go : (f : Bool) → ltb next.cells best.cells ≡ f → (cond f next best).cells ≤ c
+    go true e = u
+    go false e = omega (arith, ltb-false next.cells best.cells e)
 
 module _ (T : Traffic) (start : List ℕ) (slots : ℕ) where
   -- What is found is an overfull link of the ring, before a slot up to the last due slot, with its count.
@@ -71,39 +74,41 @@ module _ (T : Traffic) (start : List ℕ) (slots : ℕ) where
     pub cells_are : found.cells ≡ crossing T start found.link.0 found.before.0
     pub too_many : overfull T start found.link.0 found.before.0 ≡ true
 
-  abbrev IfFound : Jam → Type 0
-  IfFound found = 0 < found.cells → Found found
+  abbrev IfFound : Option Jam → Type 0
+  IfFound found = IfSome found Found
+
+  fewer_found : (best next : Option Jam) → IfFound best → IfFound next → IfFound (fewer best next)
+  unfolding fewer
+  fewer_found None next old new = new
+  fewer_found (Some best) None old new = old
+  fewer_found (Some best) (Some next) old new = one_of (ltb next.cells best.cells) best next Found old new
 
   first_found : (p : ℕ) → p < T.nodes → (m b : ℕ) → b + m ≤ suc slots → IfFound (first_from T start p m b)
   unfolding first_from
-  first_found p inside zero b fits = λ l. absurd (omega arith)
+  first_found p inside zero b fits = tt
   first_found p inside (suc m) b fits = go (overfull T start p b) refl (first_found p inside m (suc b) (omega arith))
     where
       go : (o : Bool) → overfull T start p b ≡ o → IfFound (first_from T start p m (suc b))
-          → IfFound (cond o (jam (crossing T start p b) p b) (first_from T start p m (suc b)))
-      go true e rest = λ l. record { link_inside = inside; before_inside = omega arith; cells_are = refl; too_many = e }
+          → IfFound (cond o (Some (jam (crossing T start p b) p b)) (first_from T start p m (suc b)))
+      go true e rest = record { link_inside = inside; before_inside = omega arith; cells_are = refl; too_many = e }
       go false e rest = rest
 
   below_found : (p : ℕ) → p ≤ T.nodes → IfFound (fewest_below T start slots p)
   unfolding fewest_below first_in
-  below_found zero fits = λ l. absurd (omega arith)
+  below_found zero fits = tt
   below_found (suc p) fits =
-      fewer_either (fewest_below T start slots p) (first_in T start slots p) IfFound (below_found p (omega arith))
+      fewer_found (fewest_below T start slots p) (first_in T start slots p) (below_found p (omega arith))
       (first_found p (omega arith) (suc slots) 0 (omega arith))
 
-  -- A jam with cells is an overfull link.
-  pub jam_found : 0 < (the_jam T start slots).cells → Found (the_jam T start slots)
+  -- The jam that is found is an overfull link.
+  pub jam_found : {found : Jam} → the_jam T start slots ≡ Some found → Found found
   unfolding the_jam
-  jam_found = below_found T.nodes (omega arith)
+  jam_found {found} e = let P : Option Jam → Type 0 = IfFound in subst P e (below_found T.nodes (omega arith))
 
   module _ (p b : ℕ) (too_many : overfull T start p b ≡ true)
       (more : (b₁ : ℕ) → b₁ ≤ b → crossing T start p b₁ ≤ crossing T start p b) where
     abbrev there : ℕ
     there = crossing T start p b
-
-    some : (b₁ : ℕ) → overfull T start p b₁ ≡ true → 0 < crossing T start p b₁
-    unfolding overfull
-    some b₁ e = omega (arith, ltb-true b₁ (crossing T start p b₁) e)
 
     -- The first slot before which the link is overfull has no more cells before it.
     first_no_more : (m b₁ : ℕ) → b₁ ≤ b → b < b₁ + m → NoMoreThan (first_from T start p m b₁) there
@@ -113,8 +118,8 @@ module _ (T : Traffic) (start : List ℕ) (slots : ℕ) where
       where
         go : (o : Bool) → overfull T start p b₁ ≡ o → Dec (b₁ ≡ b)
             → (suc b₁ ≤ b → b < suc b₁ + m → NoMoreThan (first_from T start p m (suc b₁)) there)
-            → NoMoreThan (cond o (jam (crossing T start p b₁) p b₁) (first_from T start p m (suc b₁))) there
-        go true e d rest = (some b₁ e, more b₁ l)
+            → NoMoreThan (cond o (Some (jam (crossing T start p b₁) p b₁)) (first_from T start p m (suc b₁))) there
+        go true e d rest = more b₁ l
         go false e (yes s) rest = absurd (differ (sym e ∙ rw s too_many))
         go false e (no s) rest = rest (omega arith) (omega arith)
 
@@ -123,10 +128,10 @@ module _ (T : Traffic) (start : List ℕ) (slots : ℕ) where
     below_no_more fits zero l = absurd (omega arith)
     below_no_more fits (suc q) l = go (ℕ_discrete p q) (below_no_more fits q)
       where
-        so_far : Jam
+        so_far : Option Jam
         so_far = fewest_below T start slots q
 
-        first : ℕ → Jam
+        first : ℕ → Option Jam
         first r = first_from T start r (suc slots) 0
 
         go : Dec (p ≡ q) → (p < q → NoMoreThan so_far there) → NoMoreThan (fewer so_far (first q)) there

@@ -1,13 +1,13 @@
 -- The jam of a table, and how many of each row's cells are in it.
-use Rattle.std.specs.Prelude.{ℕ, suc, ◌&&◌, List, eqb, length, get_or}
+use Rattle.std.specs.Prelude.{ℕ, suc, ◌&&◌, List, Option, eqb, length, get_or}
 use Rattle.lists.specs.Lists.{build}
 use Rattle.cells.specs.Rows.{Freight, owners, cell_links}
 use Rattle.cells.specs.Cells.{cell_traffic}
 use Rattle.jam.specs.declared.Jam.{Jam}
 use Rattle.jam.specs.Jam.{crosses_before, how_many, the_jam}
 
--- The jam of the cells of a table.
-unfoldable pub row_jam : Freight → (slots : ℕ) → Jam
+-- The jam of the cells of a table, if it has one.
+unfoldable pub row_jam : Freight → (slots : ℕ) → Option Jam
 row_jam F slots = the_jam (cell_traffic F) (cell_links F) slots
 
 -- How many cells of row i must cross link p before slot b.

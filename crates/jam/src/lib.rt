@@ -3,7 +3,7 @@
 
 use ring::{Node, Slot};
 
-// How many cells, which link, and before which slot; no cells where there is no jam.
+// How many cells, which link, and before which slot.
 #[derive(Clone, Copy)]
 pub struct Jam {
     pub cells: u16,

@@ -2,11 +2,10 @@
 -- earlier are those that must cross before b.
 --     count_before, count_next                 the cells that must cross before one slot more
 --     count_few                               they are no more than there are
---     ends-length, ends_entry                 the list of the counts by end
---     note_asks, due_small, skipped           a cell that is noted, and one that does not cross
+--     ends_none, ends_entry                   the list of the counts by end
+--     counted_nowhere                         a cell that does not cross
 --     end_inside, count_small, counted        one that does
---     Noted, noted_none, noted_more           cells noted one after the other
---     noted_length, can_note, noted_all       what is known of their counts
+--     counted_all                             all cells
 -- Assumes nothing.
 use mathlib.Core.Path.{◌≡◌, refl, ◌∙◌, ap, sym}
 use mathlib.Core.Bool.{Bool, true, false, cond, ◌&&◌, and-false}
@@ -15,17 +14,21 @@ use native.Mathlib.Numerals.{add-one}
 use native.Mathlib.Omega.{arith}
 use native.Mathlib.Decide.{dec_lt, ℕ_discrete}
 use mathlib.Core.List.{List}
-use borrow.Author.Tests.{lt-ltb, le-ltb, le-leb, lt-leb, eq-eqb, ne_eqb}
+use borrow.Author.Tests.{lt-ltb, le-ltb, le-leb, lt-leb, leb-true, leb-false, eq-eqb, ne_eqb}
 use lib.Dec.{leb, ltb, eqb}
 use lib.ListN.{length, get_or, set, replicate}
-use Rattle.lists.proofs.Fronts.{cleared_length}
-use Rattle.lists.proofs.Build.{length-build, get_or_build, build_ext, build_const, set-build}
-use Rattle.slack.specs.Slack.{Traffic}
+use Rattle.std.proofs.Common.{Option, None, Some}
+use Rattle.std.proofs.lemmas.Option.{none-some, same_Some}
+use Rattle.lists.proofs.Build.{get_or_build, build_ext, build_const, set-build}
+use Rattle.slack.specs.declared.Cell.{Cell}
+use Rattle.slack.proofs.Cells.{no_cell, dst_at, due_at}
+use Rattle.slack.specs.Slack.{Traffic, traffic_in, dsts_in, dues_in}
 use Rattle.ring.specs.Ring.{distance}
 use Rattle.ring.proofs.Standing.{away}
 use Rattle.jam.specs.Jam.{must_cross, crosses_before, how_many, crossing}
 use Rattle.jam.proofs.Tally.{how_many_few}
-use Rattle.jam_search.specs.Steps.{Searched, Noting, ends_at, ends}
+use Rattle.jam_search.specs.Steps.{Searched, end_of, ends_at, ends}
+use Rattle.jam_search.proofs.Cells.{left_long, left_known}
 
 -- ---- how many
 
@@ -110,16 +113,12 @@ module _ (T : Traffic) (start : List ℕ) (p : ℕ) where
 
   -- ---- the counts by end
 
-  ends_none : (size n : ℕ) → n ≡ size → replicate {A = ℕ} n 0 ≡ ends T start p size 0
+  -- Of no cells all are 0.
+  pub ends_none : (size : ℕ) → replicate {A = ℕ} size 0 ≡ ends T start p size 0
   unfolding ends how_many
-  ends_none size n e = rw e (sym (build_const size 0))
+  ends_none size = sym (build_const size 0)
 
-  -- There is a count for each end.
-  pub ends-length : (size i : ℕ) → length (ends T start p size i) ≡ size
-  unfolding ends
-  ends-length size i = length-build size (λ b. how_many i (ends_at T start p b))
-
-  -- It is how many cells have that end.
+  -- Each is how many cells have that end.
   pub ends_entry : (size i b : ℕ) → b < size → get_or (ends T start p size i) b 0 ≡ how_many i (ends_at T start p b)
   unfolding ends
   ends_entry size i b l = get_or_build size (λ c. how_many i (ends_at T start p c)) b 0 l
@@ -147,78 +146,74 @@ module _ (T : Traffic) (start : List ℕ) (p : ℕ) where
 
 -- ---- one cell counted
 
-module _ {T : Traffic} {start : List ℕ} {p i : ℕ} {counts : List ℕ} (h : Noting T start p i counts) where
-  -- What `links_between` asks of the link and the cell's destination.
-  pub note_asks : (p < T.nodes) × (get_or T.dst i 0 < T.nodes)
-  note_asks = (h.inside, h.searched.ring.dst_inside i h.known)
+module _ (cells : List Cell) {nodes : ℕ} {left : List ℕ} {size : ℕ} (searched : Searched (traffic_in nodes cells) left size)
+    {i : ℕ} (known : i < length cells) where
+  in_left : i < length left
+  in_left = left_known cells searched.ring known
 
-  -- The cell's due slot is at most 1,024.
-  pub due_small : get_or T.due i 0 < 1025
-  due_small = omega (arith, h.searched.dues i h.known, h.searched.short)
+  module _ {p : ℕ} (inside : p < nodes) {counts : List ℕ} (so_far : counts ≡ ends (traffic_in nodes cells) left p size i)
+      {end : Option ℕ}
+      (end_is : end ≡ end_of nodes (get_or cells i no_cell).dst.0 (get_or cells i no_cell).due.0 (get_or left i 0) p)
+    where
+      abbrev T : Traffic
+      T = traffic_in nodes cells
 
-  module _ (o : ℕ) (is : o ≡ distance T.nodes p (get_or T.dst i 0)) where
-    -- A cell that does not have to cross is counted nowhere.
-    pub skipped : get_or start i 0 < o → counts ≡ ends T start p (length counts) (suc i)
-    skipped l = h.so_far ∙ sym (ends_skip T start p (length counts) i (rw is at l))
+      abbrev far : ℕ
+      far = distance nodes p (get_or (dsts_in cells) i 0)
 
-    module _ (e : ℕ) (end_is : e ≡ get_or T.due i 0 + 1 - o) where
-      -- There is a count for its end.
-      pub end_inside : e < length counts
-      end_inside =
-          let links = (away T.nodes p (get_or T.dst i 0) h.inside note_asks.1).some in
-          omega (arith, h.searched.dues i h.known, links)
+      said : end ≡ cond (leb far (get_or left i 0)) (Some (suc (get_or (dues_in cells) i 0) - far)) None
+      unfolding end_of
+      said = end_is ∙ rw (dst_at cells i, due_at cells i)
 
-      -- The count so far is at most 1,024.
-      pub count_small : get_or counts e 0 < 1025
-      count_small =
-          omega (
-            arith,
-            ap (λ (l : List ℕ). get_or l e 0) h.so_far,
-            ends_entry T start p (length counts) i e end_inside,
-            how_many_few i (ends_at T start p e),
-            h.known,
-            h.searched.few,
-          )
+      -- A cell that does not have to cross the link is counted nowhere.
+      pub counted_nowhere : end ≡ None → counts ≡ ends T left p size (i + 1)
+      counted_nowhere e = go (leb far (get_or left i 0)) refl (sym said ∙ e)
+        where
+          go : (t : Bool) → leb far (get_or left i 0) ≡ t
+              → ◌≡◌ {A = Option ℕ} (cond t (Some (suc (get_or (dues_in cells) i 0) - far)) None) None
+              → counts ≡ ends T left p size (i + 1)
+          go true f g = absurd (none-some _ (sym g))
+          go false f g =
+              so_far ∙ sym (rw (add-one i) (ends_skip T left p size i (leb-false far (get_or left i 0) f)))
 
-      -- A cell that has to cross is counted at its end.
-      pub counted : o ≤ get_or start i 0 → set counts e (get_or counts e 0 + 1) ≡ ends T start p (length counts) (suc i)
-      counted l =
-          ap (λ (l : List ℕ). set l e (get_or l e 0 + 1)) h.so_far
-          ∙ ends_count T start p (length counts) i e (rw is at l) (end_is ∙ rw is (omega arith)) end_inside
+      module _ {e : ℕ} (some : end ≡ Some e) where
+        there : (far ≤ get_or left i 0) × (e ≡ suc (get_or (dues_in cells) i 0) - far)
+        there = go (leb far (get_or left i 0)) refl (sym said ∙ some)
+          where
+            go : (t : Bool) → leb far (get_or left i 0) ≡ t
+                → ◌≡◌ {A = Option ℕ} (cond t (Some (suc (get_or (dues_in cells) i 0) - far)) None) (Some e)
+                → (far ≤ get_or left i 0) × (e ≡ suc (get_or (dues_in cells) i 0) - far)
+            go true f g = (leb-true far (get_or left i 0) f, sym (same_Some _ _ g))
+            go false f g = absurd (none-some e g)
 
--- ---- one cell after the other
+        -- There is a count for its end.
+        pub end_inside : e < size
+        end_inside =
+            let links = (away nodes p (get_or (dsts_in cells) i 0) inside (searched.ring.dst_inside i in_left)).some in
+            omega (arith, there.1, searched.dues i in_left, links)
 
--- The counts of the first i cells.
-pub record Noted (T : Traffic) (start : List ℕ) (p size i : ℕ) (counts : List ℕ) : Type 0 where
-  pub are : counts ≡ ends T start p size i
+        -- The count so far is below 1,024.
+        pub count_small : get_or counts e 0 < 1024
+        count_small =
+            omega (
+              arith,
+              ap (λ (l : List ℕ). get_or l e 0) so_far,
+              ends_entry T left p size i e end_inside,
+              how_many_few i (ends_at T left p e),
+              in_left,
+              searched.few,
+            )
 
--- A cleared list holds the counts of no cells.
-pub noted_none : {T : Traffic} {start : List ℕ} {p : ℕ} {cleared : List ℕ} (size : ℕ)
-    → cleared ≡ replicate {A = ℕ} size 0 → Noted T start p (length cleared) 0 cleared
-noted_none {T} {start} {p} {cleared} size e =
-    record { are = e ∙ ends_none T start p (length cleared) size (sym (cleared_length size 0 cleared e)) }
+        -- A cell that has to cross is counted at its end.
+        pub counted : set counts e (get_or counts e 0 + 1) ≡ ends T left p size (i + 1)
+        counted =
+            ap (λ (l : List ℕ). set l e (get_or l e 0 + 1)) so_far
+            ∙ rw (add-one i) (ends_count T left p size i e there.0 there.1 end_inside)
 
-module _ {T : Traffic} {start : List ℕ} {p size i : ℕ} {counts : List ℕ} (so_far : Noted T start p size i counts) where
-  -- There is a count for each end.
-  pub noted_length : length counts ≡ size
-  noted_length = ap length so_far.are ∙ ends-length T start p size i
-
-  -- The next cell can be noted.
-  pub can_note : {lent : ℕ} → size ≡ lent → Searched T start lent → p < T.nodes → i < length start
-      → Noting T start p i counts
-  can_note e searched inside known =
-      record {
-        searched = rw (noted_length, e) searched;
-        inside = inside;
-        known = known;
-        so_far = rw noted_length so_far.are;
-      }
-
-  -- Once it is, the counts are those of one cell more.
-  pub noted_more : {after : List ℕ} → after ≡ ends T start p (length counts) (suc i)
-      → Noted T start p size (i + 1) after
-  noted_more e = record { are = e ∙ rw (noted_length, add-one i) }
-
-  -- At the end they are those of all cells.
-  pub noted_all : {lent : ℕ} → size ≡ lent → i ≡ length start → counts ≡ ends T start p lent (length start)
-  noted_all e all = so_far.are ∙ rw (e, all)
+-- Once every cell is counted the counts are those of all.
+pub counted_all : (cells : List Cell) (p : ℕ) {nodes : ℕ} {left counts : List ℕ} {size i : ℕ}
+    → Searched (traffic_in nodes cells) left size → counts ≡ ends (traffic_in nodes cells) left p size i
+    → i ≡ length cells → counts ≡ ends (traffic_in nodes cells) left p size (length left)
+counted_all cells p {nodes} {left} {counts} {size} {i} searched so_far all =
+    let same : i ≡ length left = all ∙ sym (left_long cells searched.ring) in
+    so_far ∙ rw same

@@ -1,2 +1,3 @@
+pub mod Cells
 mod Counting
 mod Searching

@@ -1,5 +1,5 @@
 -- What the search asks, and what its steps give. Nothing here has to be believed.
-use Rattle.std.specs.Prelude.{ℕ, suc, ◌-◌, ◌≤◌, ◌<◌, ◌≡◌, Bool, ◌&&◌, List, eqb, leb, length, get_or}
+use Rattle.std.specs.Prelude.{ℕ, suc, ◌-◌, ◌≤◌, ◌<◌, Bool, cond, ◌&&◌, List, Option, None, Some, eqb, leb, length, get_or}
 use Rattle.lists.specs.Lists.{build}
 use Rattle.slack.specs.Slack.{Traffic, OnRing}
 use Rattle.ring.specs.Ring.{distance}
@@ -13,6 +13,10 @@ pub record Searched (T : Traffic) (start : List ℕ) (size : ℕ) : Type 0 where
   pub dues : (i : ℕ) → i < length start → get_or T.due i 0 < size
   pub short : size ≤ 1025
 
+-- The first slot before which a cell with `left` links to go to node q must cross link p, if it has to cross it.
+unfoldable pub end_of : (n q due left p : ℕ) → Option ℕ
+end_of n q due left p = cond (leb (distance n p q) left) (Some (suc due - distance n p q)) None
+
 -- Cell i has to cross link p, and the first slot before which it must is b.
 unfoldable pub ends_at : Traffic → (start : List ℕ) → (p b i : ℕ) → Bool
 ends_at T start p b i =
@@ -22,10 +26,3 @@ ends_at T start p b i =
 -- For each slot b below `size`, how many of the first i cells that is so of.
 unfoldable pub ends : Traffic → (start : List ℕ) → (p size i : ℕ) → List ℕ
 ends T start p size i = build size (λ b. how_many i (ends_at T start p b))
-
--- What counting one cell asks.
-pub record Noting (T : Traffic) (start : List ℕ) (p i : ℕ) (counts : List ℕ) : Type 0 where
-  pub searched : Searched T start (length counts)
-  pub inside : p < T.nodes
-  pub known : i < length start
-  pub so_far : counts ≡ ends T start p (length counts) i

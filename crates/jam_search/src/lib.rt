@@ -2,137 +2,86 @@
 // cross, and the counts are summed up slot by slot.
 #![tactic(auto)]
 
-ghost use Rattle.std.specs.Prelude.{◌≡◌, ℕ, suc, ◌<◌, length, replicate};
-ghost use Rattle.slack.specs.Slack.{traffic};
-ghost use Rattle.jam.specs.Jam.{no_jam, first_in, fewer, the_jam};
-ghost use Rattle.jam_search.specs.Steps.{Searched, Noting, ends};
+ghost use Rattle.std.specs.Prelude.{◌≡◌, suc, ◌<◌, length};
+ghost use Rattle.slack.specs.Slack.{traffic_of};
+ghost use Rattle.jam.specs.Jam.{first_in, fewer, the_jam};
+ghost use Rattle.jam_search.specs.Steps.{Searched, end_of, ends};
 
 use jam::Jam;
-use lists::{clear, lower};
 use ring::{Node, Slot, links_between};
-
-// No jam.
-fn no_jam() -> Jam
-    ensures { result ≡ no_jam }
-{
-    Jam {
-        cells: 0,
-        link: Node(0),
-        before: Slot(0),
-    }
-}
+use slack::{Cargo, Cell};
 
 // The jam of fewer cells, the first of the two on a tie.
-fn fewer_of(best: Jam, next: Jam) -> Jam
+#[tactic(auto, unfolding(jam::specs::Jam::fewer))]
+fn fewer_of(best: Option<Jam>, next: Option<Jam>) -> Option<Jam>
     ensures { result ≡ fewer best next }
 {
-    if next.cells == 0 {
-        return best;
-    }
-    if best.cells == 0 {
+    let Some(old) = best else {
         return next;
-    }
-    if next.cells < best.cells { next } else { best }
+    };
+    let Some(new) = next else {
+        return best;
+    };
+    if new.cells < old.cells { next } else { best }
 }
 
-// Counts cell i, if it has to cross the link, at the first slot before which it must.
-fn note(nodes: u16, dst: &[u16], due: &[u16], left: &[u16], link: u16, i: usize, counts: &mut [u16])
-    requires { Noting (traffic nodes dst.now due.now) left.now link i counts.old }
-    ensures { counts.new ≡ ends (traffic nodes dst.now due.now)
-        left.now link (length counts.old) (suc i) }
+// The first slot before which a cell must cross the link, if it has to cross it.
+#[tactic(auto, unfolding(crate::specs::Steps::end_of))]
+fn end_of(nodes: u16, cell: Cell, left: u16, link: u16) -> Option<usize>
+    requires { (link < nodes) × (cell.dst.0 < nodes) }
+    ensures { result ≡ end_of nodes cell.dst.0 cell.due.0 left link }
 {
-    let on = links_between(nodes, Node(link), Node(dst[i]));
-    if left[i] < on.0 {
-        return;
+    let on = links_between(nodes, Node(link), cell.dst);
+    if left < on.0 {
+        return None;
     }
-    let last = due[i] as usize + 1;
-    let end = last - lower(last, on.0 as usize);
-    counts[end] = counts[end] + 1;
+    let last = cell.due.0 as usize + 1;
+    Some(last.saturating_sub(on.0 as usize))
 }
 
-// Counts all cells so.
-fn count_ends(nodes: u16, dst: &[u16], due: &[u16], left: &[u16], link: u16, counts: &mut [u16])
-    requires { Searched (traffic nodes dst.now due.now) left.now (length counts.old) × (link < nodes) }
-    ensures { counts.new ≡ ends (traffic nodes dst.now due.now)
-        left.now link (length counts.old) (length left.now) }
+// How many cells have each slot up to 1,024 as their end.
+fn count_ends(cargo: Cargo, left: &[u16], link: u16) -> [u16; 1025]
+    requires { Searched (traffic_of cargo) left.now 1025 × (link < cargo.nodes) }
+    ensures { result ≡ ends (traffic_of cargo.entry) left.now link 1025 (length left.now) }
 {
-    clear(counts);
-    let mut i = 0;
-    while i < left.len() {
-        note(nodes, dst, due, left, link, i, counts);
-        i += 1;
+    let mut counts = [0u16; 1025];
+    for (i, cell) in cargo.cells.iter().enumerate() {
+        if let Some(end) = end_of(cargo.nodes, *cell, left[i], link) {
+            counts[end] += 1;
+        }
     }
+    counts
 }
 
-// Of one link, the first slot before which it is overfull.
-fn first_in(
-    nodes: u16,
-    dst: &[u16],
-    due: &[u16],
-    left: &[u16],
-    slots: u16,
-    link: u16,
-    counts: &mut [u16],
-) -> Jam
-    requires { Searched (traffic nodes dst.now due.now) left.now (length counts.old) × (link < nodes)
-        × (length counts.old ≡ suc slots) }
-    ensures { result ≡ first_in (traffic nodes dst.now due.now) left.now slots
-        link }
+// Of one link, the first slot before which it is overfull, if there is one.
+fn first_in(cargo: Cargo, left: &[u16], slots: u16, link: u16) -> Option<Jam>
+    requires { Searched (traffic_of cargo) left.now (suc slots) × (link < cargo.nodes) }
+    ensures { result ≡ first_in (traffic_of cargo.entry) left.now slots link }
 {
-    count_ends(nodes, dst, due, left, link, counts);
-    let mut cells = 0u16;
-    let mut b = 0u16;
-    while b <= slots {
-        cells += counts[b as usize];
-        if b < cells {
-            return Jam {
-                cells: cells,
+    let counts = count_ends(cargo, left, link);
+    let mut sum = 0u16;
+    for b in 0..=slots {
+        sum += counts[b as usize];
+        if b < sum {
+            return Some(Jam {
+                cells: sum,
                 link: Node(link),
                 before: Slot(b),
-            };
+            });
         }
-        b += 1;
     }
-    no_jam()
+    None
 }
 
-// The jam of fewest cells; `counts` has a place for each slot up to the last due slot, that one too.
-fn search_ring(
-    nodes: u16,
-    dst: &[u16],
-    due: &[u16],
-    left: &[u16],
-    slots: u16,
-    counts: &mut [u16],
-) -> Jam
-    requires { Searched (traffic nodes dst.now due.now) left.now (length counts.old)
-        × (length counts.old ≡ suc slots) }
-    ensures { result ≡ the_jam (traffic nodes dst.now due.now) left.now slots }
+// The jam of fewest cells, where the last due slot is `slots`; none where no link is overfull.
+#[tactic(auto, unfolding(jam::specs::Jam::fewest_below, jam::specs::Jam::the_jam))]
+pub fn find_jam(cargo: Cargo, left: &[u16], slots: u16) -> Option<Jam>
+    requires { Searched (traffic_of cargo) left.now (suc slots) }
+    ensures { result ≡ the_jam (traffic_of cargo.entry) left.now slots }
 {
-    let mut found = no_jam();
-    let mut link = 0u16;
-    while link < nodes {
-        let next = first_in(nodes, dst, due, left, slots, link, counts);
-        let better = fewer_of(found, next);
-        found = better;
-        link += 1;
+    let mut found = None;
+    for link in 0..cargo.nodes {
+        found = fewer_of(found, first_in(cargo, left, slots, link));
     }
     found
-}
-
-// A place for each slot up to 1,024, all 0.
-fn no_counts() -> [u16; 1025]
-    ensures { result ≡ replicate {A = ℕ} 1025 0 }
-{
-    [0u16; 1025]
-}
-
-// The jam of fewest cells, where the last due slot is `slots`; no cells where there is none.
-pub fn find_jam(nodes: u16, dst: &[u16], due: &[u16], left: &[u16], slots: u16) -> Jam
-    requires { Searched (traffic nodes dst.now due.now) left.now (suc slots) }
-    ensures { result ≡ the_jam (traffic nodes dst.now due.now) left.now slots }
-{
-    let mut counts = no_counts();
-    let size = slots as usize + 1;
-    search_ring(nodes, dst, due, left, slots, &mut counts[..size])
 }

@@ -12,12 +12,13 @@ use native.Mathlib.Numerals.{add-one}
 use native.Mathlib.Omega.{arith}
 use borrow.Author.Tests.{lt-ltb, le-ltb}
 use lib.ListN.{length, get_or, set, take, drop, length-set, length-drop, length-append, drop_of_length-le}
-use lib.Seq.{drop-cons, take-suc-set, take_all, append_snoc}
+use lib.Seq.{drop-cons, drop-drop, take-suc-set, take_all, append_snoc}
 use Rattle.text.specs.Text.{line_feed, row_keys, row_text, line_good, line_rest, values_at, behind_lines, wrong_line}
 use Rattle.text.specs.Text.{row_at}
 use Rattle.text.proofs.RowLaws.{made, Right, row_stands}
 use Rattle.lines.proofs.Seen.{Seen}
-use Rattle.lines.specs.declared.RowSeen.TheVariants.{Whole, Broken}
+use Rattle.lines.specs.declared.Item.{Item}
+use Rattle.std.proofs.Common.{Ok, Err}
 use Rattle.lines.specs.Items.{right_lines, row_seen}
 
 -- A row has at least one line, and at most sixteen.
@@ -50,77 +51,80 @@ broken_on (k ∷ ks) more text l h = go (line_good k text) h (broken_on ks more 
     go true h rec = rec (omega arith) ∙ omega arith
     go false h rec = omega arith
 
--- j lines are read, up to a place, and their values are at the front of vs
-pub record Reached (keys : List (List ℕ)) (text : List ℕ) (at : ℕ) (vs : List ℕ) (next j : ℕ) : Type 0 where
+-- j lines are read, of so many bytes, and their values are at the front of vs
+pub record Reached (keys : List (List ℕ)) (text : List ℕ) (vs : List ℕ) (next j : ℕ) : Type 0 where
   pub few : j ≤ length keys
   pub inside : next ≤ length text
   pub long : length vs ≡ length keys
-  pub counted : right_lines keys (drop at text) ≡ j + right_lines (drop j keys) (drop next text)
-  pub past : behind_lines keys (drop at text) ≡ behind_lines (drop j keys) (drop next text)
-  pub said : values_at keys (drop at text) ≡ take j vs ++ values_at (drop j keys) (drop next text)
+  pub counted : right_lines keys text ≡ j + right_lines (drop j keys) (drop next text)
+  pub past : behind_lines keys text ≡ behind_lines (drop j keys) (drop next text)
+  pub said : values_at keys text ≡ take j vs ++ values_at (drop j keys) (drop next text)
 
-pub none_reached : (keys : List (List ℕ)) (text : List ℕ) (at : ℕ) (vs : List ℕ) → at ≤ length text
-    → length vs ≡ length keys → Reached keys text at vs at 0
-none_reached keys text at vs h e =
-    record { few = omega arith; inside = h; long = e; counted = omega arith; past = refl; said = refl }
+pub none_reached : (keys : List (List ℕ)) (text : List ℕ) (vs : List ℕ)
+    → length vs ≡ length keys → Reached keys text vs 0 0
+none_reached keys text vs e =
+    record { few = omega arith; inside = omega arith; long = e; counted = omega arith; past = refl; said = refl }
 
-module _ {keys : List (List ℕ)} {text : List ℕ} {at : ℕ} {vs : List ℕ} {next j : ℕ}
-    (k : Reached keys text at vs next j) where
+module _ {keys : List (List ℕ)} {text : List ℕ} {vs : List ℕ} {next j : ℕ}
+    (k : Reached keys text vs next j) where
   module _ (more : j < length keys) where
     key_next : drop j keys ≡ get_or keys j [] ∷ drop (j + 1) keys
     key_next = rw add-one (drop-cons keys j [] more)
 
-    pub stopped : line_good (get_or keys j []) (drop next text) ≡ false → right_lines keys (drop at text) ≡ j
+    pub stopped : line_good (get_or keys j []) (drop next text) ≡ false → right_lines keys text ≡ j
     unfolding right_lines
     stopped e = k.counted ∙ rw (key_next, e) (omega arith)
 
-    pub more_reached : (v end : ℕ) → Seen (get_or keys j []) line_feed text next v end
-        → Reached keys text at (set vs j v) end (j + 1)
+    pub more_reached : (i : Item) → Seen (get_or keys j []) line_feed (drop next text) i
+        → Reached keys text (set vs j i.value) (next + i.length) (j + 1)
     unfolding right_lines behind_lines values_at
-    more_reached v end s =
+    more_reached i s =
+        let v = i.value in
+        let end = next + i.length in
         let front : take (j + 1) (set vs j v) ≡ take j vs ++ (v ∷ []) =
         rw add-one (take-suc-set vs j v (omega (arith, k.long))) in
+        let past : drop end text ≡ line_rest (get_or keys j []) (drop next text) =
+        sym (drop-drop i.length next text) ∙ s.rest in
         let rest = values_at (drop (j + 1) keys) (drop end text) in
         record {
           few = omega arith;
-          inside = s.inside;
+          inside = omega (arith, s.inside, length-drop next text, k.inside);
           long = length-set vs j v ∙ k.long;
-          counted = k.counted ∙ rw (key_next, s.good, ← s.rest) (omega arith);
-          past = k.past ∙ rw (key_next, s.rest);
-          said = k.said ∙ rw (key_next, ← s.rest, ← s.value, front) (sym (append_snoc (take j vs) v rest));
+          counted = k.counted ∙ rw (key_next, s.good, ← past) (omega arith);
+          past = k.past ∙ rw (key_next, past);
+          said = k.said ∙ rw (key_next, ← past, ← s.value, front) (sym (append_snoc (take j vs) v rest));
         }
 
   module _ (done : length keys ≤ j) where
     no_keys : drop j keys ≡ []
     no_keys = drop_of_length-le keys done
 
-    pub all_right : length keys ≤ right_lines keys (drop at text)
+    pub all_right : length keys ≤ right_lines keys text
     unfolding right_lines
     all_right = rw (k.counted, no_keys) (omega arith)
 
-    pub all_past : behind_lines keys (drop at text) ≡ drop next text
+    pub all_past : behind_lines keys text ≡ drop next text
     unfolding behind_lines
     all_past = k.past ∙ rw no_keys
 
-    pub all_said : values_at keys (drop at text) ≡ vs
+    pub all_said : values_at keys text ≡ vs
     unfolding values_at
     all_said = k.said ∙ rw (no_keys, append-nil) (take_all j vs (omega (arith, k.long)))
 
-module _ {text : List ℕ} {at : ℕ} {vs : List ℕ} {next j : ℕ} (k : Reached row_keys text at vs next j) where
+module _ {text : List ℕ} {vs : List ℕ} {next j : ℕ} (k : Reached row_keys text vs next j) where
   pub answers_broken : j < length row_keys → line_good (get_or row_keys j []) (drop next text) ≡ false
-      → Broken j ≡ row_seen text at
+      → Err j ≡ row_seen text
   unfolding row_seen
   answers_broken more e = rw (stopped k more e, lt-ltb j (length row_keys) more)
 
-  pub answers_whole : length row_keys ≤ j → at ≤ length text → Whole (made vs) next ≡ row_seen text at
+  pub answers_whole : length row_keys ≤ j → Ok (record { row = made vs; length = next }) ≡ row_seen text
   unfolding row_seen row_at
-  answers_whole done h =
-      let from = drop at text in
-      let right = right_all row_keys from (all_right k done) in
-      let row : made vs ≡ row_at from = ap made (sym (all_said k done)) in
-      let stands = ap length (row_stands from right)
-      ∙ length-append (row_text (row_at from)) (behind_lines row_keys from) in
-      let rest : length (behind_lines row_keys from) ≡ length text - next = ap length (all_past k done)
+  answers_whole done =
+      let right = right_all row_keys text (all_right k done) in
+      let row : made vs ≡ row_at text = ap made (sym (all_said k done)) in
+      let stands = ap length (row_stands text right)
+      ∙ length-append (row_text (row_at text)) (behind_lines row_keys text) in
+      let rest : length (behind_lines row_keys text) ≡ length text - next = ap length (all_past k done)
       ∙ length-drop next text in
-      let place : next ≡ at + length (row_text (row_at from)) = omega (arith, stands, length-drop at text, k.inside) in
-      cc (row, place, le-ltb (right_lines row_keys from) (length row_keys) (all_right k done))
+      let place : next ≡ length (row_text (row_at text)) = omega (arith, stands, k.inside) in
+      cc (row, place, le-ltb (right_lines row_keys text) (length row_keys) (all_right k done))

@@ -1,11 +1,11 @@
--- The sum and the largest entry of a list, one entry further on.
---     total_more, largest_more      of the first i + 1 entries, from those of the first i
+-- The sum of a list, one entry further on, and what bounds its entries.
+--     total_more                    of the first i + 1 entries, from those of the first i
 --     total_below                   a sum of entries that are each at most m
 --     at_most_largest               no entry is above the largest
 --     largest_below                 entries that are each at most m
 -- Assumes nothing.
 use mathlib.Core.Path.{◌≡◌}
-use Prim.Native.Nat.{ℕ, zero, suc, ◌+◌, ◌*◌, ◌≤◌, ◌<◌, max}
+use Prim.Native.Nat.{ℕ, zero, suc, ◌+◌, ◌*◌, ◌≤◌, ◌<◌}
 use native.Mathlib.Nat.{not-suc-le-zero, le_of_suc-le-suc}
 use native.Mathlib.Omega.{arith}
 use native.Mathlib.Numerals.{add-one}
@@ -19,19 +19,8 @@ total-suc [] i h = absurd (not-suc-le-zero h)
 total-suc (x ∷ xs) zero h = omega arith
 total-suc (x ∷ xs) (suc i) h = omega (arith, total-suc xs i (le_of_suc-le-suc h))
 
-largest-suc : (xs : List ℕ) (i : ℕ) → i < length xs
-    → largest (take (suc i) xs) ≡ max (largest (take i xs)) (get_or xs i 0)
-unfolding largest
-largest-suc [] i h = absurd (not-suc-le-zero h)
-largest-suc (x ∷ xs) zero h = omega arith
-largest-suc (x ∷ xs) (suc i) h = omega (arith, largest-suc xs i (le_of_suc-le-suc h))
-
 pub total_more : (xs : List ℕ) (i : ℕ) → i < length xs → total (take (i + 1) xs) ≡ total (take i xs) + get_or xs i 0
 total_more xs i h = rw add-one (total-suc xs i h)
-
-pub largest_more : (xs : List ℕ) (i : ℕ) → i < length xs
-    → largest (take (i + 1) xs) ≡ max (largest (take i xs)) (get_or xs i 0)
-largest_more xs i h = rw add-one (largest-suc xs i h)
 
 pub total_below : (m : ℕ) (xs : List ℕ) → ((i : ℕ) → i < length xs → get_or xs i 0 ≤ m) → total xs ≤ m * length xs
 unfolding total

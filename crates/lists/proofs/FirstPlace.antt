@@ -1,5 +1,4 @@
 -- The first place of a number in a list, and that the largest entry has one.
---     place_here, place_next, place_end     the search from the front: it is here; it lies further on; it is nowhere
 --     place_fits                            the first place is in the list or directly behind it
 --     found_there                           the number stands at its first place, where that is in the list
 --     not_before                            it doesn't stand before
@@ -7,33 +6,16 @@
 --     largest_there                         the largest entry of a list that isn't empty is one of its entries
 -- Assumes nothing.
 use mathlib.Core.Path.{◌≡◌, refl, ◌∙◌, sym}
-use Prim.Native.Nat.{ℕ, zero, suc, ◌+◌, ◌≤◌, ◌<◌}
+use Prim.Native.Nat.{ℕ, zero, suc, ◌≤◌, ◌<◌}
 use native.Mathlib.Nat.{le_of_suc-le-suc, not-suc-le-zero}
-use native.Mathlib.Numerals.{add-one}
 use native.Mathlib.Decide.{dec_le}
 use native.Mathlib.Omega.{arith, by_contra}
 use mathlib.Core.Bool.{Bool, true, false, cond}
 use mathlib.Core.List.{List, [], ◌∷◌}
-use borrow.Author.Tests.{eq-eqb, ne_eqb, eqb-true, eqb-false}
+use borrow.Author.Tests.{eqb-true, eqb-false}
 use lib.Dec.{eqb}
-use lib.ListN.{length, get_or, drop, drop_of_length-le}
-use lib.Seq.{drop-cons}
+use lib.ListN.{length, get_or}
 use Rattle.lists.specs.Lists.{largest, first_place}
-
--- The search from the front.
-module _ (x : ℕ) (part : List ℕ) (i : ℕ) where
-  pub place_here : i < length part → x ≡ get_or part i 0 → i + first_place x (drop i part) ≡ i
-  unfolding first_place
-  place_here h e = rw (drop-cons part i 0 h, eq-eqb x (get_or part i 0) e) (omega arith)
-
-  pub place_next : i < length part → (x ≡ get_or part i 0 → ⊥)
-      → i + first_place x (drop i part) ≡ i + 1 + first_place x (drop (i + 1) part)
-  unfolding first_place
-  place_next h other = rw (drop-cons part i 0 h, ne_eqb x (get_or part i 0) other, add-one i) (omega arith)
-
-  pub place_end : length part ≤ i → i + first_place x (drop i part) ≡ i
-  unfolding first_place
-  place_end h = rw (drop_of_length-le part h) (omega arith)
 
 -- The first place is in the list or directly behind it.
 pub place_fits : (x : ℕ) (l : List ℕ) → first_place x l ≤ length l

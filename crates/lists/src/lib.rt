@@ -8,18 +8,14 @@ ghost use Rattle.lists.specs.Lists.{total, largest, first_place};
 pub fn lower(a: usize, b: usize) -> usize
     ensures { result ≡ min a b }
 {
-    if a < b { a } else { b }
+    a.min(b)
 }
 
 // Sets every entry to 0.
 pub fn clear(part: &mut [u16])
     ensures { part.new ≡ replicate {A = ℕ} (length part.old) 0 }
 {
-    let mut i = 0;
-    while i < part.len() {
-        part[i] = 0;
-        i += 1;
-    }
+    part.fill(0);
 }
 
 // The sum of all entries; up to 65,536 of them fit.
@@ -27,48 +23,27 @@ pub fn sum(part: &[u16]) -> u32
     requires { length part.now ≤ 65536 }
     ensures { result ≡ total part.now }
 {
-    let mut sum = 0u32;
-    let mut i = 0;
-    while i < part.len() {
-        sum += part[i] as u32;
-        i += 1;
-    }
-    sum
+    part.iter().map(|x| *x as u32).sum()
 }
 
 // The largest entry, 0 where there is none.
 pub fn greatest(part: &[u16]) -> u16
     ensures { result ≡ largest part.now }
 {
-    let mut most = 0u16;
-    let mut i = 0;
-    while i < part.len() {
-        let x = part[i];
-        if most < x {
-            most = x;
-        }
-        i += 1;
-    }
-    most
+    part.iter().copied().max().unwrap_or(0)
 }
 
-// The first place of a number, and the number of entries where it has none.
+// The first place of a number, and the number of entries where it has none: whoever asks for the place of the largest
+// entry has one wherever there is an entry.
 pub fn first_place(part: &[u16], x: u16) -> usize
     ensures { result ≡ first_place x part.now }
 {
-    let mut i = 0;
-    while i < part.len() {
-        if x == part[i] {
-            return i;
-        }
-        i += 1;
-    }
-    i
+    part.iter().position(|y| x == *y).unwrap_or(part.len())
 }
 
-// A place for each row that a table may have, all 0.
-pub fn zeros() -> [u16; 512]
-    ensures { result ≡ replicate {A = ℕ} 512 0 }
+// A list of N entries, all 0.
+pub fn zeros<const N: usize>() -> [u16; N]
+    ensures { result ≡ replicate {A = ℕ} N 0 }
 {
-    [0u16; 512]
+    [0; N]
 }

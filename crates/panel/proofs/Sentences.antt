@@ -12,26 +12,22 @@ use mathlib.Core.List.{List, [], ◌∷◌}
 use Prim.Native.Nat.{ℕ, suc}
 use lib.Dec.{eqb, ltb, leb}
 use lib.ListN.{length}
+use Rattle.std.specs.Prelude.{Result, Ok, Err}
 use Rattle.lists.specs.Lists.{first_place}
 use Rattle.table.specs.declared.Row.{Row}
-use Rattle.table.specs.declared.Verdict.{Verdict}
-use Rattle.table.specs.declared.Verdict.TheVariants.{Good, Refused}
-use Rattle.table.specs.Table.{most_rows, latest_due, most_length, most_cells, row_refusal, judge_rows, cells_in, after_rows}
-use Rattle.table.specs.Table.{judge_all, judge}
-use Rattle.planner.specs.declared.Answer.{Answer}
-use Rattle.planner.specs.declared.Answer.TheVariants.{Accepted, Refused as Turned}
+use Rattle.table.specs.declared.Refusal.{Refusal}
+use Rattle.table.specs.Table.{most_rows, latest_due, most_length, most_cells, Verdict, row_refusal, after_row, judge_rows}
+use Rattle.table.specs.Table.{cells_in, after_rows, judge_all, judge}
+use Rattle.planner.specs.declared.Summary.{Summary}
 use Rattle.planner.specs.Planner.{plan_room, ending, the_looks, answer_to_rows, after_verdict, the_answer, number_of}
 use Rattle.planner.specs.Planner.{looks_after}
-use Rattle.text.specs.declared.Reading.{Reading}
-use Rattle.text.specs.declared.Writing.{Writing}
-use Rattle.text.specs.declared.Writing.TheVariants.{Written, Refused as NotWritten}
+use Rattle.text.specs.declared.Header.{Header}
 use Rattle.text.specs.Text.{nodes_key, rows_key, text_of, line_good, line_rest, wrong_line, rows_keys, nodes_in, rows_in}
 use Rattle.text.specs.Text.{body_of, reading_of_rows, reading_of_body, reading_of, writing_of}
 use Rattle.area.specs.Area as Area
 use Rattle.area.specs.Area.{most_links, count_in}
-use Rattle.edit.specs.declared.Entry.{Entry}
 use Rattle.edit.specs.Edit.{about_row, edit_refusal, entry_of}
-use Rattle.edit_judge.specs.Judge.{Edit, Add, Change, Remove, first_of, size_refusal, number_refusal, refusal_of, verdict_by}
+use Rattle.edit_judge.specs.Judge.{Edit, Add, Change, Remove, first_of, size_refusal, number_refusal, refusal_of, answer_by, verdict_by}
 use Rattle.catalogue.specs.Catalogue.{is_in, verdict_on}
 use Rattle.catalogue.proofs.Told.{Told, ToldVerdict, either, verdict_told}
 use Rattle.sentence.specs.Sentence as Sentence
@@ -45,37 +41,48 @@ use Rattle.flat.specs.Flat.{flat_of, flat_reading, flat_writing, flat_verdict, f
 use Rattle.panel.specs.Panel.{PanelPlanned, PanelRead, PanelWritten, PanelOpened, PanelEdited, PanelPut}
 
 -- An answer and a reading whose number has a sentence.
-abbrev ToldAnswer : Answer → Type 0
+abbrev ToldAnswer : Result Summary Refusal → Type 0
 ToldAnswer a = Told (number_of a)
 
-abbrev ToldReading : Reading → Type 0
+abbrev ToldReading : Result Header Refusal → Type 0
 ToldReading r = Told (flat_reading r).number
+
+-- So the number of what is wrong, where something is.
+abbrev ToldWrong : Result Unit ℕ → Type 0
+ToldWrong (Ok _) = Told 0
+ToldWrong (Err number) = Told number
 
 -- A verdict has one as plain numbers too.
 flat_verdict_told : (v : Verdict) → ToldVerdict v → Told (flat_verdict v).number
 unfolding ToldVerdict flat_verdict
-flat_verdict_told Good t = t
-flat_verdict_told (Refused r) t = t
+flat_verdict_told (Ok _) t = t
+flat_verdict_told (Err r) t = t
 
 -- ---- planning
 -- A row's refusal, that of the first bad row, that of too many cells, and that of a table.
-row_told : (n : ℕ) (r : Row) → Told (row_refusal n r)
+row_told : (n : ℕ) (r : Row) → ToldWrong (row_refusal n r)
 unfolding row_refusal is_in first_place
 row_told n r =
-    either Told (leb n r.src) refl
-    (either Told (leb n r.dst) refl
-    (either Told (eqb r.len 0 || ltb most_length r.len) refl
-    (either Told (eqb r.due 0 || ltb latest_due r.due) refl refl)))
+    either ToldWrong (leb n r.src) refl
+    (either ToldWrong (leb n r.dst) refl
+    (either ToldWrong (eqb r.len 0 || ltb most_length r.len) refl
+    (either ToldWrong (eqb r.due 0 || ltb latest_due r.due) refl refl)))
+
+after_row_told : (wrong : Result Unit ℕ) (row : ℕ) (rest : Verdict) → ToldWrong wrong → ToldVerdict rest
+    → ToldVerdict (after_row wrong row rest)
+unfolding after_row ToldVerdict
+after_row_told (Ok _) row rest t u = u
+after_row_told (Err number) row rest t u = t
 
 rows_told : (n : ℕ) (rows : List Row) (above : ℕ) → ToldVerdict (judge_rows n rows above)
 unfolding judge_rows ToldVerdict is_in first_place
 rows_told n [] above = refl
-rows_told n (r ∷ rows) above = either ToldVerdict (eqb (row_refusal n r) 0) (rows_told n rows (suc above)) (row_told n r)
+rows_told n (r ∷ rows) above = after_row_told (row_refusal n r) (suc above) _ (row_told n r) (rows_told n rows (suc above))
 
 cells_told : (v : Verdict) (cells : ℕ) → ToldVerdict v → ToldVerdict (after_rows v cells)
 unfolding after_rows ToldVerdict is_in first_place
-cells_told Good cells t = either ToldVerdict (ltb most_cells cells) refl refl
-cells_told (Refused r) cells t = t
+cells_told (Ok _) cells t = either ToldVerdict (ltb most_cells cells) refl refl
+cells_told (Err r) cells t = t
 
 table_told : (n : ℕ) (rows : List Row) → ToldVerdict (judge n rows)
 unfolding judge judge_all ToldVerdict is_in first_place
@@ -85,16 +92,16 @@ table_told n rows =
     (cells_told (judge_rows n rows 0) (cells_in rows) (rows_told n rows 0)))
 
 -- Flattened, an answer keeps its number.
-flat_number : (a : Answer) (looks : ℕ) → (flat_of a looks).number ≡ number_of a
+flat_number : (a : Result Summary Refusal) (looks : ℕ) → (flat_of a looks).number ≡ number_of a
 unfolding flat_of number_of
-flat_number (Accepted s) looks = refl
-flat_number (Turned r) looks = refl
+flat_number (Ok s) looks = refl
+flat_number (Err r) looks = refl
 
 -- The answer to a table.
-after_told : (v : Verdict) (next : Answer) → ToldVerdict v → ToldAnswer next → ToldAnswer (after_verdict v next)
+after_told : (v : Verdict) (next : Result Summary Refusal) → ToldVerdict v → ToldAnswer next → ToldAnswer (after_verdict v next)
 unfolding after_verdict ToldVerdict number_of
-after_told Good next t u = u
-after_told (Refused r) next t u = t
+after_told (Ok _) next t u = u
+after_told (Err r) next t u = t
 
 answer_told : (n : ℕ) (rows : List Row) (plan_lent arrivals_lent : ℕ)
     → ToldAnswer (the_answer n rows plan_lent arrivals_lent)
@@ -142,15 +149,15 @@ writing_told n rows room =
     (either ToldWriting (ltb room (length (text_of n rows))) refl refl)
 
 -- A writing has one as plain numbers too, of a table or of a catalogue.
-flat_writing_told : (w : Writing) → ToldWriting w → Told (flat_writing w).number
+flat_writing_told : (w : Result ℕ Refusal) → ToldWriting w → Told (flat_writing w).number
 unfolding ToldWriting flat_writing
-flat_writing_told (Written k) t = t
-flat_writing_told (NotWritten r) t = t
+flat_writing_told (Ok k) t = t
+flat_writing_told (Err r) t = t
 
-flat_sentence_told : (w : Writing) → ToldWriting w → Told (flat_sentence w).number
+flat_sentence_told : (w : Result ℕ Refusal) → ToldWriting w → Told (flat_sentence w).number
 unfolding ToldWriting flat_sentence
-flat_sentence_told (Written k) t = t
-flat_sentence_told (NotWritten r) t = t
+flat_sentence_told (Ok k) t = t
+flat_sentence_told (Err r) t = t
 
 -- Whatever writing answers has a sentence.
 pub writing_has_sentence : {n : ℕ} {rows : List Row} {area area' : List ℕ} {r : WriteAnswer}
@@ -159,29 +166,32 @@ writing_has_sentence {n} {rows} {area} d =
     rw d.answers (flat_writing_told (writing_of n rows (length area)) (writing_told n rows (length area)))
 
 -- ---- editing
--- A verdict by its number, and the first of two refusals.
-by_told : (number row : ℕ) → Told number → ToldVerdict (verdict_by number row)
-unfolding verdict_by ToldVerdict is_in first_place
-by_told number row t = either ToldVerdict (eqb number 0) refl t
+-- A verdict by what is wrong, and the first of two refusals.
+by_told : (wrong : Result Unit ℕ) (row : ℕ) → ToldWrong wrong → ToldVerdict (verdict_by wrong row)
+unfolding answer_by ToldVerdict
+by_told (Ok _) row t = t
+by_told (Err number) row t = t
 
-first_told : (a b : ℕ) → Told a → Told b → Told (first_of a b)
+first_told : (a b : Result Unit ℕ) → ToldWrong a → ToldWrong b → ToldWrong (first_of a b)
 unfolding first_of
-first_told a b t u = either Told (eqb a 0) u t
+first_told (Ok _) b t u = u
+first_told (Err number) b t u = t
 
 -- The refusal of the sizes, of a full table, of a row number, and of an edit.
-size_told : (n count : ℕ) → Told (size_refusal n count)
+size_told : (n count : ℕ) → ToldWrong (size_refusal n count)
 unfolding size_refusal is_in first_place
-size_told n count = either Told (ltb n 2 || ltb most_links n) refl (either Told (ltb most_rows count) refl refl)
+size_told n count =
+    either ToldWrong (ltb n 2 || ltb most_links n) refl (either ToldWrong (ltb most_rows count) refl refl)
 
-full_told : (count : ℕ) → Told (cond (eqb count most_rows) 2 0)
+full_told : (count : ℕ) → ToldWrong (cond (eqb count most_rows) (Err 2) (Ok tt))
 unfolding is_in first_place
-full_told count = either Told (eqb count most_rows) refl refl
+full_told count = either ToldWrong (eqb count most_rows) refl refl
 
-number_told : (count k : ℕ) → Told (number_refusal count k)
+number_told : (count k : ℕ) → ToldWrong (number_refusal count k)
 unfolding number_refusal is_in first_place
-number_told count k = either Told (eqb k 0 || ltb count k) refl refl
+number_told count k = either ToldWrong (eqb k 0 || ltb count k) refl refl
 
-refusal_told : (n count : ℕ) (e : Edit) → Told (refusal_of n count e)
+refusal_told : (n count : ℕ) (e : Edit) → ToldWrong (refusal_of n count e)
 unfolding refusal_of
 refusal_told n count (Add r) = first_told _ _ (size_told n count) (first_told _ _ (full_told count) (row_told n r))
 refusal_told n count (Change k r) =
@@ -200,11 +210,14 @@ edit_has_sentence {s} {s'} {e} d =
     (by_told (edit_refusal s e) (about_row s e) (refusal_told (Area.nodes_in s) (count_in s) e)))
 
 -- Whatever asking for a row answers has a sentence.
+entry_told : (wrong : Result Unit ℕ) (k : ℕ) (r : Row) → ToldWrong wrong → Told (flat_entry (answer_by wrong k r)).number
+unfolding answer_by flat_entry
+entry_told (Ok _) k r t = t
+entry_told (Err number) k r t = t
+
 pub row_has_sentence : (s : List ℕ) (k : ℕ) → Told (flat_entry (entry_of s k)).number
-unfolding entry_of flat_entry is_in first_place
-row_has_sentence s k =
-    either (λ (x : Entry). Told (flat_entry x).number) (eqb (edit_refusal s (Remove k)) 0) refl
-    (refusal_told (Area.nodes_in s) (count_in s) (Remove k))
+unfolding entry_of
+row_has_sentence s k = entry_told _ k _ (refusal_told (Area.nodes_in s) (count_in s) (Remove k))
 
 -- ---- the catalogue
 -- Whatever judging a catalogue answers has a sentence.

@@ -1,2 +1,1 @@
 pub mod Panel
-pub mod Steps

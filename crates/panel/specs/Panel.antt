@@ -1,5 +1,5 @@
 -- What the panel's functions give: the proved entry points' outcomes, with answers as plain numbers.
-use Rattle.std.specs.Prelude.{ℕ, ◌≡◌, Bool, cond, List, [], ◌++◌, eqb, length, drop}
+use Rattle.std.specs.Prelude.{ℕ, ◌≡◌, Bool, cond, List, [], ◌++◌, is_ok, length, drop}
 use Rattle.table.specs.declared.Row.{Row}
 use Rattle.planner.specs.Planner.{the_answer, looks_after, area_after, the_plan, the_arrivals, the_looks}
 use Rattle.text.specs.Text as Text
@@ -50,7 +50,7 @@ pub record PanelWritten (n : ℕ) (rows : List Row) (area : List ℕ) (r : Write
 -- The full outcome of opening from the panel: the flattened verdict, and every number of the lent area.
 pub record PanelOpened (n : ℕ) (s : List ℕ) (r : EditAnswer) (s' : List ℕ) : Type 0 where
   pub answers : r ≡ flat_verdict (verdict_by (size_refusal n 0) 0)
-  pub fills : s' ≡ cond (eqb (size_refusal n 0) 0) (area_of n []) s
+  pub fills : s' ≡ cond (is_ok (size_refusal n 0)) (area_of n []) s
 
 -- The full outcome of an edit from the panel: the flattened verdict, and every number of the lent area.
 pub record PanelEdited (s : List ℕ) (e : Edit) (r : EditAnswer) (s' : List ℕ) : Type 0 where

@@ -2,84 +2,22 @@
 #![tactic(auto)]
 
 ghost use Rattle.std.specs.Prelude.{◌≡◌, get_or};
-ghost use Rattle.table.specs.Steps.{listed};
 ghost use Rattle.area.specs.Area.{count_in, nodes_in, rows_in, loads_in, busiest_in};
 ghost use Rattle.edit.specs.Edit.{entry_of};
 ghost use Rattle.edit_judge.specs.Judge.{Add, Change, Remove};
 ghost use Rattle.flat.specs.Flat.{flat_verdict, flat_entry, flat_link};
 ghost use Rattle.panel.specs.Panel.{PanelPlanned, PanelRead, PanelWritten, PanelOpened, PanelEdited};
 ghost use Rattle.panel.specs.Panel.{PanelSentence, PanelLabel, PanelReasoned};
-ghost use Rattle.panel.specs.Steps.{FlatRead};
 ghost use Rattle.looks.specs.Looks.{most_looks};
 ghost use Rattle.catalogue.specs.Catalogue.{verdict_on};
 
-use area::Area;
+use area::{Area, list_rows};
 use flat::{
     EditAnswer, LinkAnswer, PlanAnswer, ReadAnswer, ReasonAnswer, RowAnswer, SentenceAnswer,
-    WriteAnswer, flat_answer, flat_entry, flat_link, flat_reading, flat_reason, flat_sentence,
-    flat_verdict, flat_writing,
+    WriteAnswer,
 };
-use lent::{load, store_rows};
-use looks::most_looks_columns;
 use ring::Node;
-use table::{Columns, Row};
-
-// What reading a text comes to in plain numbers, and the rows that it fills by columns.
-#[derive(Clone, Copy)]
-struct FlatParsed {
-    reading: ReadAnswer,
-    rows: usize,
-    columns: Columns,
-}
-
-// Reads a text, where so many records are lent, and answers in plain numbers.
-fn parse_flat(text: &[u8], lent: usize) -> FlatParsed
-    ensures { FlatRead text.now lent result }
-{
-    let parsed = reader::parse(text, lent);
-    let answer = parsed.reading;
-    let rows = parsed.rows;
-    let columns = parsed.columns;
-    let reading = flat_reading(answer);
-    FlatParsed {
-        reading,
-        rows,
-        columns,
-    }
-}
-
-// Plans the first `rows` rows of the columns, and answers in plain numbers.
-fn plan_flat(
-    nodes: u16,
-    rows: usize,
-    columns: Columns,
-    plan: &mut [u16],
-    arrivals: &mut [u16],
-) -> PlanAnswer
-    ensures { PanelPlanned nodes (listed rows columns) plan.old arrivals.old result
-        plan.new arrivals.new }
-{
-    let reply = planner::plan_columns(nodes, rows, columns, plan, arrivals);
-    let looks = reply.looks;
-    let answer = reply.answer;
-    flat_answer(answer, looks)
-}
-
-// Says why the table of the first `rows` rows of the columns is late, in plain numbers.
-fn reason_flat(nodes: u16, rows: usize, columns: Columns, members: &mut [u16]) -> ReasonAnswer
-    ensures { PanelReasoned nodes (listed rows columns) members.old result members.new }
-{
-    let reason = reason::why_late_columns(nodes, rows, columns, members);
-    flat_reason(reason)
-}
-
-// Writes the text of a table, its rows given by columns, and answers in plain numbers.
-fn write_flat(nodes: u16, rows: usize, columns: Columns, area: &mut [u8]) -> WriteAnswer
-    ensures { PanelWritten nodes (listed rows columns) area.old result area.new }
-{
-    let writing = writer::write_columns(nodes, rows, columns, area);
-    flat_writing(writing)
-}
+use table::Row;
 
 // Plans a table in the lent areas, and answers in plain numbers.
 #[unsafe(no_mangle)]
@@ -92,9 +30,7 @@ pub extern "C" fn garboardle_plan(
     ensures { PanelPlanned nodes rows.now plan.old arrivals.old result
         plan.new arrivals.new }
 {
-    let count = rows.len();
-    let columns = load(rows);
-    plan_flat(nodes, count, columns, plan, arrivals)
+    planner::plan(nodes, rows, plan, arrivals).into()
 }
 
 // The most looks that planning a table can take, for a watchdog that must know before it calls.
@@ -102,9 +38,7 @@ pub extern "C" fn garboardle_plan(
 pub extern "C" fn garboardle_most_looks(nodes: u16, rows: &[Row]) -> u32
     ensures { result ≡ most_looks nodes rows.now }
 {
-    let count = rows.len();
-    let columns = load(rows);
-    most_looks_columns(nodes, count, columns)
+    looks::most_looks(nodes, rows)
 }
 
 // Says why a table is late, and of each row, in the lent list, how many of its cells are to blame.
@@ -112,9 +46,7 @@ pub extern "C" fn garboardle_most_looks(nodes: u16, rows: &[Row]) -> u32
 pub extern "C" fn garboardle_reason(nodes: u16, rows: &[Row], members: &mut [u16]) -> ReasonAnswer
     ensures { PanelReasoned nodes rows.now members.old result members.new }
 {
-    let count = rows.len();
-    let columns = load(rows);
-    reason_flat(nodes, count, columns, members)
+    reason::why_late(nodes, rows, members).into()
 }
 
 // Reads a table's text into the lent rows, and answers in plain numbers.
@@ -122,10 +54,7 @@ pub extern "C" fn garboardle_reason(nodes: u16, rows: &[Row], members: &mut [u16
 pub extern "C" fn garboardle_read(text: &[u8], rows: &mut [Row]) -> ReadAnswer
     ensures { PanelRead text.now rows.old result rows.new }
 {
-    let lent = rows.len();
-    let parsed = parse_flat(text, lent);
-    store_rows(rows, parsed.columns, parsed.rows);
-    parsed.reading
+    reader::read(text, rows).into()
 }
 
 // Writes a table's text into the lent area, and answers in plain numbers.
@@ -133,9 +62,7 @@ pub extern "C" fn garboardle_read(text: &[u8], rows: &mut [Row]) -> ReadAnswer
 pub extern "C" fn garboardle_write(nodes: u16, rows: &[Row], area: &mut [u8]) -> WriteAnswer
     ensures { PanelWritten nodes rows.now area.old result area.new }
 {
-    let count = rows.len();
-    let columns = load(rows);
-    write_flat(nodes, count, columns, area)
+    writer::write(nodes, rows, area).into()
 }
 
 // Opens an empty table for so many nodes in the lent area.
@@ -143,7 +70,7 @@ pub extern "C" fn garboardle_write(nodes: u16, rows: &[Row], area: &mut [u8]) ->
 pub extern "C" fn garboardle_open(table: &mut Area, nodes: u16) -> EditAnswer
     ensures { PanelOpened nodes table.old result table.new }
 {
-    flat_verdict(edit::open(table, nodes))
+    edit::open(table, nodes).into()
 }
 
 // Adds a row at the end of an open table.
@@ -151,7 +78,7 @@ pub extern "C" fn garboardle_open(table: &mut Area, nodes: u16) -> EditAnswer
 pub extern "C" fn garboardle_add(table: &mut Area, row: Row) -> EditAnswer
     ensures { PanelEdited table.old (Add row) result table.new }
 {
-    flat_verdict(edit::add(table, row))
+    edit::add(table, row).into()
 }
 
 // Changes row `number` of an open table.
@@ -159,7 +86,7 @@ pub extern "C" fn garboardle_add(table: &mut Area, row: Row) -> EditAnswer
 pub extern "C" fn garboardle_change(table: &mut Area, number: u16, row: Row) -> EditAnswer
     ensures { PanelEdited table.old (Change number row) result table.new }
 {
-    flat_verdict(edit::change(table, number, row))
+    edit::change(table, number, row).into()
 }
 
 // Removes row `number` of an open table.
@@ -167,7 +94,7 @@ pub extern "C" fn garboardle_change(table: &mut Area, number: u16, row: Row) -> 
 pub extern "C" fn garboardle_remove(table: &mut Area, number: u16) -> EditAnswer
     ensures { PanelEdited table.old (Remove number) result table.new }
 {
-    flat_verdict(edit::remove(table, number))
+    edit::remove(table, number).into()
 }
 
 // The number of rows of an open table.
@@ -183,7 +110,7 @@ pub extern "C" fn garboardle_row_count(table: &Area) -> u16
 pub extern "C" fn garboardle_row_of(table: &Area, number: u16) -> RowAnswer
     ensures { result ≡ flat_entry (entry_of table.now number) }
 {
-    flat_entry(edit::row_of(table, number))
+    edit::row_of(table, number).into()
 }
 
 // How many cells of an open table cross a link.
@@ -199,7 +126,7 @@ pub extern "C" fn garboardle_link_load(table: &Area, link: u16) -> u16
 pub extern "C" fn garboardle_busiest(table: &Area) -> LinkAnswer
     ensures { result ≡ flat_link (busiest_in (loads_in table.now)) }
 {
-    flat_link(area::busiest(table))
+    area::busiest(table).into()
 }
 
 // Plans an open table in the lent areas, as `garboardle_plan` plans the same rows.
@@ -212,9 +139,8 @@ pub extern "C" fn garboardle_plan_table(
     ensures { PanelPlanned (nodes_in table.now) (rows_in table.now) plan.old
         arrivals.old result plan.new arrivals.new }
 {
-    let rows = area::row_count(table) as usize;
-    let columns = area::columns_of(table);
-    plan_flat(table[0], rows, columns, plan, arrivals)
+    let rows = list_rows(table);
+    planner::plan(table[0], rows.as_slice(), plan, arrivals).into()
 }
 
 // The most looks that planning an open table can take.
@@ -222,9 +148,8 @@ pub extern "C" fn garboardle_plan_table(
 pub extern "C" fn garboardle_most_looks_table(table: &Area) -> u32
     ensures { result ≡ most_looks (nodes_in table.now) (rows_in table.now) }
 {
-    let rows = area::row_count(table) as usize;
-    let columns = area::columns_of(table);
-    most_looks_columns(table[0], rows, columns)
+    let rows = list_rows(table);
+    looks::most_looks(table[0], rows.as_slice())
 }
 
 // Judges a catalogue.
@@ -232,7 +157,7 @@ pub extern "C" fn garboardle_most_looks_table(table: &Area) -> u32
 pub extern "C" fn garboardle_catalogue(catalogue: &[u8]) -> EditAnswer
     ensures { result ≡ flat_verdict (verdict_on catalogue.now) }
 {
-    flat_verdict(catalogue::judge(catalogue))
+    catalogue::judge(catalogue).into()
 }
 
 // Writes the sentence of an answer into the lent area.
@@ -246,8 +171,7 @@ pub extern "C" fn garboardle_sentence(
 ) -> SentenceAnswer
     ensures { PanelSentence catalogue.now number row slot area.old result area.new }
 {
-    let writing = sentence::sentence(catalogue, number, row, slot, area);
-    flat_sentence(writing)
+    sentence::sentence(catalogue, number, row, slot, area).into()
 }
 
 // Writes the label of a field into the lent area.
@@ -255,6 +179,5 @@ pub extern "C" fn garboardle_sentence(
 pub extern "C" fn garboardle_label(catalogue: &[u8], field: u16, area: &mut [u8]) -> SentenceAnswer
     ensures { PanelLabel catalogue.now field area.old result area.new }
 {
-    let writing = sentence::label(catalogue, field, area);
-    flat_sentence(writing)
+    sentence::label(catalogue, field, area).into()
 }

@@ -13,9 +13,8 @@ use lib.ListN.{replicate}
 use Rattle.lists.specs.Lists.{total, largest}
 use Rattle.ring.specs.Ring.{distance, standing}
 use Rattle.table.specs.declared.Row.{Row}
-use Rattle.table.specs.Table.{refuse, row_refusal, judge_rows, cells_in, after_rows, judge_all, judge, destinations, lengths}
+use Rattle.table.specs.Table.{refuse, row_refusal, after_row, judge_rows, cells_in, after_rows, judge_all, judge, destinations, lengths}
 use Rattle.table.specs.Table.{dues, distances, sends_of, last_due}
-use Rattle.table.specs.Steps.{sources}
 use Rattle.slack.specs.Slack.{under_way, place, slack_of, slack, is_late, late_from, late_row, better, pick, slot_of, moved}
 use Rattle.slack.specs.Slack.{state_at, plan_of, delivered_from, arrivals_of, any_under_way, stop_from, stop_of}
 use Rattle.cells.specs.Rows.{per_cell, owners_of, owners, laid_out, cell_links}
@@ -23,9 +22,8 @@ use Rattle.cells.specs.Cells.{dues_of, cell_dues, cell_traffic, owner_of, told_b
 use Rattle.cells.specs.Cells.{of_last_cells, row_arrivals}
 use Rattle.optimal.specs.Schedule.{busy}
 use Rattle.cells.specs.Looks.{looks_to, looks_of, row_looks}
-use Rattle.planner.specs.declared.Answer.{Answer}
-use Rattle.planner.specs.declared.Answer.TheVariants.{Accepted, Refused}
-use Rattle.planner.specs.Planner.{ending, the_plan, the_arrivals, quotient, summary_of, the_summary}
+use Rattle.std.specs.Prelude.{Ok, Err}
+use Rattle.planner.specs.Planner.{Answer, ending, the_plan, the_arrivals, quotient, summary_of, the_summary}
 use Rattle.planner.specs.Planner.{answer_to_rows, after_verdict, the_answer, the_looks, looks_after, area_after}
 
 -- A row of several cells: source, destination, length, due slot.
@@ -52,10 +50,10 @@ sevens n = replicate n 7
 -- An acceptance by its figures; floats as sign, whole number and power of two.
 accepted : (last sends sum : ℕ) (mean share : Float) → Answer
 accepted last sends sum mean share =
-    Accepted (record { last = record { 0 = last }; sends = sends; sum = sum; mean = mean; share = share })
+    Ok (record { last = record { 0 = last }; sends = sends; sum = sum; mean = mean; share = share })
 
 refused : (number row slot : ℕ) → Answer
-refused number row slot = Refused (refuse number row slot)
+refused number row slot = Err (refuse number row slot)
 
 case : ℕ → List Row → Answer → (looks : ℕ) → (plan arrivals : List ℕ) → Case
 case nodes rows answer looks plan arrivals =
@@ -146,8 +144,8 @@ areas answer n rows false =
     let none : List ℕ = [] in (area_after answer none (sevens 25), area_after answer none (sevens 4))
 
 used : Answer → Bool
-used (Accepted s) = true
-used (Refused r) = eqb r.number 9
+used (Ok s) = true
+used (Err r) = eqb r.number 9
 
 computed : Case → Case
 computed c =
@@ -158,7 +156,7 @@ computed c =
 -- Every case comes out as document 01 says.
 sweep_table : map computed cases ≡ cases
 unfolding long row accepted case refused cases areas used computed total largest distance standing
-    row_refusal judge_rows cells_in after_rows judge_all judge sources destinations lengths dues distances last_due
+    row_refusal after_row judge_rows cells_in after_rows judge_all judge destinations lengths dues distances last_due
     under_way place slack_of slack is_late late_from late_row better pick slot_of moved state_at plan_of delivered_from
     arrivals_of any_under_way stop_from stop_of per_cell owners_of owners laid_out cell_links dues_of cell_dues cell_traffic owner_of
     told_by row_plan end_by row_stop of_last_cells row_arrivals

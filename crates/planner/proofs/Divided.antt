@@ -28,21 +28,16 @@ use Rattle.cells.specs.Cells.{cell_traffic}
 use Rattle.best.proofs.Order.{links_long, laid_on_ring}
 use Rattle.best.proofs.Arriving.{last, arrival_is}
 use Rattle.planner.specs.declared.Summary.{Summary}
-use Rattle.planner.specs.declared.Answer.TheVariants.{Accepted}
+use Rattle.std.specs.Prelude.{Ok}
 use Rattle.planner.specs.declared.Reply.{Reply}
 use Rattle.planner.specs.Planner.{freight_of, the_arrivals, quotient, summary_of, the_summary}
 use Rattle.planner.specs.Planner.{number_of, Planned}
-use Rattle.planner.proofs.Answering.{arrivals_long}
-use Rattle.planner.proofs.Good.{soon}
+use Rattle.planner.proofs.Answering.{arrivals_long, its_arrivals}
+use Rattle.planner.proofs.Good.{soon, table_laden, table_cells}
 use Rattle.planner.proofs.Crossed.{sends_of_cells}
 use Rattle.table.proofs.Whole.{sound}
 use Rattle.planner.proofs.Promises.{
-  tabled,
-  all_good,
-  table_laden,
-  table_cells,
   accepted_with,
-  lengths_long,
   last_above_zero,
 }
 use Rattle.planner.proofs.Seen.{accepted_is_plannable}
@@ -125,18 +120,14 @@ module _ (n : ℕ) (rows : List Row) (well : WellFormed n rows) where
         arith,
         arrival_is F laden i known some (last_due rows),
         (delivered_first (cell_traffic F) (cell_links F) (last F laden i known some) (last_due rows) 0).within,
-        soon (tabled n rows well) (all_good n rows well),
+        soon n rows well,
       )
-
-  its_rows : length (the_arrivals n rows) ≡ length rows
-  unfolding the_arrivals
-  its_rows = arrivals_long F (last_due rows) ∙ lengths_long rows
 
   few_rows : length rows ≤ 512
   few_rows = (sound n rows well).few
 
   small_sum : total (the_arrivals n rows) ≤ 1024 * 512
-  small_sum = omega (arith, total_below 1024 (the_arrivals n rows) arrival_soon, its_rows, few_rows)
+  small_sum = omega (arith, total_below 1024 (the_arrivals n rows) arrival_soon, its_arrivals n rows, few_rows)
 
   small_sends : sends_of n rows ≤ 32 * 1024
   unfolding cells_in cell_traffic
@@ -181,7 +172,7 @@ module _ (n : ℕ) (rows : List Row) (well : WellFormed n rows) where
 
 -- Each of the two figures of an acceptance is one division of whole numbers that are exact as floats.
 pub divided_exactly : {n : ℕ} {rows : List Row} {plan arrivals plan' arrivals' : List ℕ} {r : Reply} {s : Summary}
-    → Planned n rows plan arrivals r plan' arrivals' → r.answer ≡ Accepted s → Divided n rows s
+    → Planned n rows plan arrivals r plan' arrivals' → r.answer ≡ Ok s → Divided n rows s
 unfolding number_of
 divided_exactly {n} {rows} {r} {s} out accepted =
     let none : number_of r.answer ≡ 0 = rw accepted in

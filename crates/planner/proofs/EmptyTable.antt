@@ -18,7 +18,7 @@ use Rattle.cells.specs.Rows.{per_cell, owners_of, owners, laid_out, cell_links, 
 use Rattle.cells.specs.Cells.{owner_of, told_by, row_plan, end_by, row_stop}
 use Rattle.cells.specs.Cells.{of_last_cells, row_arrivals}
 use Rattle.planner.specs.declared.Summary.{Summary}
-use Rattle.planner.specs.declared.Answer.TheVariants.{Accepted}
+use Rattle.std.specs.Prelude.{Ok}
 use Rattle.planner.specs.Planner.{
   ScheduleOf,
   ending,
@@ -61,7 +61,7 @@ empty_areas n = (refl, refl)
 
 -- On a ring of 2 to 32 nodes an empty table is accepted with that summary, whatever room is lent.
 pub empty_accepted : (n plan_lent arrivals_lent : ℕ) → 2 ≤ n → n ≤ 32
-    → the_answer n [] plan_lent arrivals_lent ≡ Accepted zeros
+    → the_answer n [] plan_lent arrivals_lent ≡ Ok zeros
 unfolding the_answer after_verdict answer_to_rows judge judge_all judge_rows after_rows cells_in ending row_stop end_by owner_of
     owners owners_of stop_of stop_from late_row late_from any_under_way cell_links laid_out per_cell total largest lengths dues
     distances last_due

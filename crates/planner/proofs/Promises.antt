@@ -13,20 +13,18 @@ use native.Mathlib.Omega.{arith}
 use native.Mathlib.Nat.{mul_comm}
 use mathlib.Core.Bool.{cond}
 use mathlib.Core.List.{List, ◌++◌}
-use borrow.Author.Tests.{le-ltb, ne_eqb}
+use borrow.Author.Tests.{ne_eqb}
 use lib.Dec.{eqb, eqb-suc-zero}
-use lib.ListN.{length, get_or, take, drop, length-map, get_or-map}
+use lib.ListN.{length, get_or, take, drop, get_or-map}
 use lib.Seq.{take_at}
-use Rattle.lists.specs.Lists.{build, largest}
+use Rattle.std.specs.Prelude.{Ok, Err}
+use Rattle.lists.specs.Lists.{largest}
 use Rattle.lists.proofs.Truth.{differ}
-use Rattle.ring.specs.Ring.{distance}
 use Rattle.lists.proofs.Figures.{at_most_largest}
 use Rattle.table.specs.declared.Row.{Row}
 use Rattle.table.specs.declared.Refusal.{Refusal}
-use Rattle.table.specs.declared.Verdict.TheVariants as verdict
-use Rattle.table.specs.Table.{WellFormed, judge_all, refuse, destinations, lengths, dues, distances, sends_of, last_due}
-use Rattle.table.specs.Steps.{none, sources, rows_of}
-use Rattle.table.proofs.Rows.{rows_of_columns, same_rows}
+use Rattle.table.specs.Table.{WellFormed, refuse, lengths, dues, distances, sends_of, last_due}
+use Rattle.table.specs.Steps.{none}
 use Rattle.table.proofs.Judging.{good_rows}
 use Rattle.table.proofs.Whole.{sound}
 use Rattle.slack.specs.declared.Stop.{Stop}
@@ -38,35 +36,16 @@ use Rattle.optimal.proofs.Deliveries.{First, delivered_first}
 use Rattle.cells.specs.Rows.{Freight, owners, cell_links}
 use Rattle.cells.specs.Cells.{cell_traffic, owner_of, row_plan, end_by, row_stop, RowLate}
 use Rattle.cells.specs.Steps.{Laden}
-use Rattle.cells.specs.Steps.{AboveZero}
+use Rattle.cells.proofs.Laying.{lengths_long}
 use Rattle.best.proofs.Best.{row_plan_long, cell_dues_lem, told_is_schedule, rows_late_iff_none}
 use Rattle.best.proofs.Order.{links_long, links_at}
 use Rattle.best.proofs.Named.{late_names_lowest, row_stop_none}
 use Rattle.best.proofs.Planning.{told_sends}
 use Rattle.best.proofs.Arriving.{last, last_is, arrival_is}
-use Rattle.planner.specs.declared.Answer.{Answer}
-use Rattle.planner.specs.declared.Answer.TheVariants.{Accepted, Refused}
 use Rattle.planner.specs.declared.Reply.{Reply}
-use Rattle.planner.specs.Planner.{
-  freight_of,
-  plan_room,
-  ending,
-  the_plan,
-  the_arrivals,
-  the_summary,
-  answer_to_rows,
-  after_verdict,
-  the_answer,
-  number_of,
-  the_looks,
-  looks_after,
-  area_after,
-  Planned,
-  ScheduleOf,
-  Plannable,
-}
-use Rattle.planner.specs.Steps.{Tabled}
-use Rattle.planner.proofs.Good.{laden, some_cell, under_way_lem, its_freight}
+use Rattle.planner.specs.Planner.{Answer, freight_of, plan_room, ending, the_plan, the_arrivals, the_summary, number_of, the_looks, looks_after, area_after, Planned, ScheduleOf, Plannable}
+use Rattle.planner.proofs.Good.{table_laden, table_cells, under_way_lem}
+use Rattle.planner.proofs.Judged.{plannable_answer}
 use Rattle.planner.proofs.Crossed.{sends_of_cells}
 
 abbrev reply : Answer → ℕ → Reply
@@ -87,27 +66,8 @@ one_outcome {n} {rows} {plan} {arrivals} {r₁} {r₂} a b =
       a.fills_arrivals ∙ ap (λ r. area_after r (the_arrivals n rows) arrivals) same ∙ sym b.fills_arrivals,
     )
 
-pub lengths_long : (rows : List Row) → length (lengths rows) ≡ length rows
-unfolding lengths
-lengths_long rows = length-map rows _
-
+-- No row is due after the largest due slot.
 module _ (n : ℕ) (rows : List Row) (well : WellFormed n rows) where
-  pub tabled : Tabled n (sources rows) (destinations rows) (lengths rows) (dues rows)
-  tabled = let s = sound n rows well in record { least = s.least; most = s.most; same = same_rows rows s.few }
-
-  pub all_good : judge_all n (rows_of (sources rows) (destinations rows) (lengths rows) (dues rows)) ≡ verdict.Good
-  all_good = rw (rows_of_columns rows) (sound n rows well).all
-
-  pub its_links : distances n rows
-      ≡ build (length (sources rows)) (λ i. distance n (get_or (sources rows) i 0) (get_or (destinations rows) i 0))
-  its_links = ap (distances n) (sym (rows_of_columns rows)) ∙ ap (λ F. F.links) (its_freight tabled all_good)
-
-  pub table_laden : Laden (freight_of n rows)
-  table_laden = rw its_links (laden tabled all_good)
-
-  pub table_cells : AboveZero (lengths rows)
-  table_cells = some_cell tabled all_good
-
   pub due_in_time : (i : ℕ) → i < length (lengths rows) → get_or (dues rows) i 0 ≤ last_due rows
   unfolding last_due
   due_in_time i h = at_most_largest (dues rows) i
@@ -135,23 +95,19 @@ module _ {n : ℕ} {rows : List Row} {plan arrivals plan' arrivals' : List ℕ} 
 
   -- what is left to decide is how the run ends
   pub decided : r.answer
-      ≡ cond (eqb (ending n rows).row 0) (Accepted (the_summary n rows))
-      (Refused (refuse 9 (ending n rows).row (ending n rows).slot.0))
-  unfolding the_answer after_verdict answer_to_rows
-  decided =
-      let for-plan = le-ltb (length plan) (plan_room n rows) k.room_for_plan in
-      let for-arrivals = le-ltb (length arrivals) (length rows) k.room_for_arrivals in
-      out.answers ∙ rw (k.well_formed, for-plan, for-arrivals)
+      ≡ cond (eqb (ending n rows).row 0) (Ok (the_summary n rows))
+      (Err (refuse 9 (ending n rows).row (ending n rows).slot.0))
+  decided = out.answers ∙ plannable_answer k
 
   no_row_late : number_of r.answer ≡ 0 → (ending n rows).row ≡ 0
   unfolding number_of
   no_row_late e = go (ending n rows).row refl (ap number_of (sym decided) ∙ e)
     where
       late : ℕ → Answer
-      late row = Refused (refuse 9 row (ending n rows).slot.0)
+      late row = Err (refuse 9 row (ending n rows).slot.0)
 
       go : (row : ℕ) → (ending n rows).row ≡ row
-          → number_of (cond (eqb row 0) (Accepted (the_summary n rows)) (late row)) ≡ 0 → (ending n rows).row ≡ 0
+          → number_of (cond (eqb row 0) (Ok (the_summary n rows)) (late row)) ≡ 0 → (ending n rows).row ≡ 0
       go zero f z = f
       go (suc row) f z = let never : ◌≡◌ {A = ℕ} 9 0 = rw (eqb-suc-zero row) at z in absurd (omega arith)
 
@@ -182,7 +138,7 @@ module _ {n : ℕ} {rows : List Row} {plan arrivals plan' arrivals' : List ℕ} 
       (λ e. best.0 (late_then e), λ none. then_late (best.1 none))
 
   -- An acceptance carries the table's summary.
-  pub accepted_with : number_of r.answer ≡ 0 → r.answer ≡ Accepted (the_summary n rows)
+  pub accepted_with : number_of r.answer ≡ 0 → r.answer ≡ Ok (the_summary n rows)
   accepted_with e = decided ∙ rw (no_row_late e)
 
   -- The used entries of an accepted plan are the rule's plan, told in rows.
@@ -206,21 +162,21 @@ module _ {n : ℕ} {rows : List Row} {plan arrivals plan' arrivals' : List ℕ} 
       (told_sends F loaded slots (cell_dues_lem {F = F} {slots = slots} loaded in_time) (accepted_then e))
 
   -- Refusal 9 names where the rule's run ends, and with which row.
-  pub late_at : (row t : ℕ) → r.answer ≡ Refused (refuse 9 row t)
+  pub late_at : (row t : ℕ) → r.answer ≡ Err (refuse 9 row t)
       → ((ending n rows).row ≡ row) × ((ending n rows).slot.0 ≡ t)
   unfolding number_of
   late_at row t e =
       let is_late_lem : (ending n rows).row ≡ 0 → ⊥ = late_row_lem (ap number_of e) in
-      let refused : r.answer ≡ Refused (refuse 9 (ending n rows).row (ending n rows).slot.0)
+      let refused : r.answer ≡ Err (refuse 9 (ending n rows).row (ending n rows).slot.0)
       = decided ∙ rw (ne_eqb (ending n rows).row 0 is_late_lem) in
       let named : refuse 9 (ending n rows).row (ending n rows).slot.0 ≡ refuse 9 row t = inside (sym refused ∙ e) in
       (ap (λ x. x.row) named, ap (λ x. x.slot.0) named)
     where
-      inside : {x y : Refusal} → Refused x ≡ Refused y → x ≡ y
+      inside : {x y : Refusal} → ◌≡◌ {A = Answer} (Err x) (Err y) → x ≡ y
       inside f = cc
 
   -- Refusal 9 names the first instant at which a row is late, and the lowest row that is late then.
-  pub late_names_the_first : (row t : ℕ) → r.answer ≡ Refused (refuse 9 row t)
+  pub late_names_the_first : (row t : ℕ) → r.answer ≡ Err (refuse 9 row t)
       → ((u i : ℕ) → u < t → RowLate F u (state_at T start u) i → ⊥)
       × ((i : ℕ) × (row ≡ suc i) × (i < length rows) × RowLate F t (state_at T start t) i
       × ((j : ℕ) → j < i → RowLate F t (state_at T start t) j → ⊥))
@@ -248,10 +204,6 @@ module _ {n : ℕ} {rows : List Row} {plan arrivals plan' arrivals' : List ℕ} 
           let long = state_length T start t ∙ links_long F in
           let (i, is, known, late, least) = late_names_lowest F t (state_at T start t) long c (sym f) in
           (i, sym o ∙ is, omega (arith, lengths_long rows), late, least)
-
-sources_long : (rows : List Row) → length (sources rows) ≡ length rows
-unfolding sources
-sources_long rows = length-map rows _
 
 first_due : (rows : List Row) → get_or (dues rows) 0 0 ≡ (get_or rows 0 none).due
 unfolding dues
@@ -287,9 +239,7 @@ last_above_zero n rows well some =
     cell = table_cells n rows well 0 known
 
     links : 0 < get_or (distances n rows) 0 0
-    links =
-        rw (its_links n rows well)
-        (under_way_lem (tabled n rows well) (all_good n rows well) 0 (omega (arith, sources_long rows)))
+    links = under_way_lem n rows well 0 some
 
     going : 0 < get_or (cell_links F) (last F laden' 0 known cell) 0
     going =

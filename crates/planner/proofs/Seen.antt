@@ -18,21 +18,20 @@ use lib.Seq.{get_or-take}
 use Rattle.lists.specs.Lists.{total}
 use Rattle.table.specs.declared.Row.{Row}
 use Rattle.table.specs.declared.Refusal.{Refusal}
-use Rattle.table.specs.declared.Verdict.{Verdict}
-use Rattle.table.specs.declared.Verdict.TheVariants as verdict
-use Rattle.table.specs.Table.{judge, refuse, lengths, dues, last_due}
+use Rattle.table.specs.Table.{Verdict, judge, refuse, lengths, dues, last_due}
 use Rattle.table.proofs.Whole.{table_refused, table_early}
 use Rattle.slack.specs.Slack.{Traffic, pick, state_at, plan_of}
 use Rattle.optimal.proofs.Plan.{entry_inside, plan_entry}
 use Rattle.cells.specs.Rows.{Freight, cell_links, cells_left, Delivered, MeetsRows, owners}
 use Rattle.cells.specs.Cells.{cell_traffic, owner_of, row_plan, row_arrivals}
+use Rattle.cells.proofs.Laying.{lengths_long}
 use Rattle.best.proofs.Order.{links_long}
 use Rattle.best.proofs.Best.{told_at}
 use Rattle.best.proofs.Arriving.{row_arrives}
-use Rattle.planner.specs.declared.Answer.{Answer}
-use Rattle.planner.specs.declared.Answer.TheVariants.{Accepted, Refused}
+use Rattle.std.specs.Prelude.{Ok, Err}
 use Rattle.planner.specs.declared.Reply.{Reply}
 use Rattle.planner.specs.Planner.{
+  Answer,
   freight_of,
   plan_room,
   ending,
@@ -53,16 +52,14 @@ use Rattle.planner.proofs.Promises.{
   accepted_with,
   the_plan_is,
   accepted_plan_is_a_schedule,
-  lengths_long,
-  table_laden,
-  table_cells,
 }
+use Rattle.planner.proofs.Good.{table_laden, table_cells}
 
 module _ {n : ℕ} {rows : List Row} {plan arrivals plan' arrivals' : List ℕ} {r : Reply}
     (out : Planned n rows plan arrivals r plan' arrivals') where
   -- What is answered by a number that is no refusal before 9 is answered of a plannable table.
   run_is_plannable : (m : ℕ) → (m ≡ 7 → ⊥) → (m ≡ 8 → ⊥)
-      → ((x : Refusal) → judge n rows ≡ verdict.Refused x → x.number ≡ m → ⊥)
+      → ((x : Refusal) → judge n rows ≡ Err x → x.number ≡ m → ⊥)
       → number_of r.answer ≡ m → Plannable n rows plan arrivals
   unfolding the_answer after_verdict answer_to_rows number_of
   run_is_plannable m not-7 not-8 not-early is =
@@ -70,12 +67,12 @@ module _ {n : ℕ} {rows : List Row} {plan arrivals plan' arrivals' : List ℕ} 
     where
       rest : Answer
       rest =
-          cond (eqb (ending n rows).row 0) (Accepted (the_summary n rows))
-          (Refused (refuse 9 (ending n rows).row (ending n rows).slot.0))
+          cond (eqb (ending n rows).row 0) (Ok (the_summary n rows))
+          (Err (refuse 9 (ending n rows).row (ending n rows).slot.0))
 
       room : (a : Bool) → ltb (length plan) (plan_room n rows) ≡ a → (b : Bool) → ltb (length arrivals) (length rows) ≡ b
-          → judge n rows ≡ verdict.Good
-          → number_of (cond a (Refused (refuse 7 0 0)) (cond b (Refused (refuse 8 0 0)) rest)) ≡ m
+          → judge n rows ≡ Ok tt
+          → number_of (cond a (Err (refuse 7 0 0)) (cond b (Err (refuse 8 0 0)) rest)) ≡ m
           → Plannable n rows plan arrivals
       room true f b g well z = absurd (not-7 (sym z))
       room false f true g well z = absurd (not-8 (sym z))
@@ -89,9 +86,9 @@ module _ {n : ℕ} {rows : List Row} {plan arrivals plan' arrivals' : List ℕ} 
       by_verdict : (v : Verdict) → judge n rows ≡ v
           → number_of (after_verdict v (answer_to_rows n rows (length plan) (length arrivals))) ≡ m
           → Plannable n rows plan arrivals
-      by_verdict verdict.Good e z =
+      by_verdict (Ok tt) e z =
           room (ltb (length plan) (plan_room n rows)) refl (ltb (length arrivals) (length rows)) refl e z
-      by_verdict (verdict.Refused x) e z = absurd (not-early x e z)
+      by_verdict (Err x) e z = absurd (not-early x e z)
 
   -- Refusals 1 to 8, 10 and 11 do not hold of an accepted table, nor of a late one.
   pub accepted_is_plannable : number_of r.answer ≡ 0 → Plannable n rows plan arrivals

@@ -8,6 +8,7 @@ use Prim.Native.Nat.{ℕ, zero, suc, ◌+◌, ◌≤◌, ◌<◌}
 use native.Mathlib.Omega.{arith}
 use mathlib.Core.List.{List}
 use lib.ListN.{length, get_or}
+use Rattle.std.proofs.lemmas.List.{get_or-map}
 use Rattle.ring.specs.Ring.{distance}
 use Rattle.ring.proofs.Standing.{full_turn}
 use Rattle.table.specs.declared.Row.{Row}
@@ -16,11 +17,11 @@ use Rattle.table.specs.Steps.{none}
 use Rattle.slack.proofs.Rule.{moved_length, moved_by_one}
 use Rattle.optimal.specs.Schedule.{named_in}
 use Rattle.cells.specs.Rows.{Freight, cell_links, road, carried, cells_left, Delivered}
+use Rattle.cells.proofs.Laying.{lengths_long}
 use Rattle.cells.proofs.Seats.{first_cell, cell_known}
 use Rattle.best.proofs.Order.{owner_at, links_at, links_long}
 use Rattle.planner.specs.Planner.{freight_of}
-use Rattle.planner.proofs.Promises.{lengths_long, table_cells}
-use Rattle.planner.proofs.Starting.{its_entry}
+use Rattle.planner.proofs.Good.{table_cells}
 
 module _ (F : Freight) (schedule : List ℕ) where
   -- No slot changes how many cells there are.
@@ -54,7 +55,7 @@ module _ (n : ℕ) (rows : List Row) (well : WellFormed n rows) (i : ℕ) (known
   pub starts_full : (j : ℕ) → j < get_or (lengths rows) i 0 → get_or (cell_links F) (first_cell (lengths rows) i + j) 0 ≡ n
   unfolding distances
   starts_full j in_row =
-      links_at F i j inside in_row ∙ its_entry (λ r. distance n r.src r.dst) rows i known
+      links_at F i j inside in_row ∙ get_or-map (λ (r : Row). distance n r.src r.dst) rows i none 0 known
       ∙ ap (distance n (get_or rows i none).src) (sym own) ∙ full_turn n (get_or rows i none).src
 
   -- So no schedule, legal or not, delivers the row before instant N.

@@ -1,20 +1,22 @@
 -- What the planner answers, and what it leaves in the lent areas, in the words and order of document 01.
 use Rattle.std.specs.Prelude.{ℕ, ◌*◌, ◌≤◌, ◌≡◌, cond, List, ◌++◌, eqb, ltb, pos, Float, length, drop, replicate}
+use Rattle.std.specs.Prelude.{Result, Ok, Err}
 use Rattle.std.specs.Float.{binary64}
 use Rattle.std.specs.Float.Ieee.{div, of_int, of_bits}
 use Rattle.lists.specs.Lists.{total, largest}
 use Rattle.table.specs.declared.Row.{Row}
-use Rattle.table.specs.declared.Verdict.{Verdict}
-use Rattle.table.specs.declared.Verdict.TheVariants as verdict
-use Rattle.table.specs.Table.{judge, WellFormed, refuse, destinations, lengths, dues, distances, sends_of, last_due}
+use Rattle.table.specs.declared.Refusal.{Refusal}
+use Rattle.table.specs.Table.{Verdict, judge, WellFormed, refuse, destinations, lengths, dues, distances, sends_of, last_due}
 use Rattle.slack.specs.declared.Stop.{Stop}
 use Rattle.cells.specs.Rows.{Freight, freight, RowSchedule}
 use Rattle.cells.specs.Cells.{row_stop, row_plan, row_arrivals}
 use Rattle.cells.specs.Looks.{row_looks}
 use Rattle.planner.specs.declared.Summary.{Summary}
-use Rattle.planner.specs.declared.Answer.{Answer}
-use Rattle.planner.specs.declared.Answer.TheVariants.{Accepted, Refused}
 use Rattle.planner.specs.declared.Reply.{Reply}
+
+-- What planning answers: a summary, or a refusal.
+abbrev pub Answer : Type 0
+Answer = Result Summary Refusal
 
 -- The freight of a table: its nodes, and its rows' destinations, lengths, due slots and distances.
 abbrev pub freight_of : ℕ → List Row → Freight
@@ -64,15 +66,15 @@ the_summary n rows =
 -- The answer to a well-formed table: 7 and 8 for the room lent, then 9 for a late row, else acceptance.
 unfoldable pub answer_to_rows : ℕ → List Row → (plan_lent arrivals_lent : ℕ) → Answer
 answer_to_rows n rows plan_lent arrivals_lent =
-    cond (ltb plan_lent (plan_room n rows)) (Refused (refuse 7 0 0))
-    (cond (ltb arrivals_lent (length rows)) (Refused (refuse 8 0 0))
-    (cond (eqb (ending n rows).row 0) (Accepted (the_summary n rows))
-    (Refused (refuse 9 (ending n rows).row (ending n rows).slot.0))))
+    cond (ltb plan_lent (plan_room n rows)) (Err (refuse 7 0 0))
+    (cond (ltb arrivals_lent (length rows)) (Err (refuse 8 0 0))
+    (cond (eqb (ending n rows).row 0) (Ok (the_summary n rows))
+    (Err (refuse 9 (ending n rows).row (ending n rows).slot.0))))
 
 -- The answer: what judging the table came to, where it is no good table, and else what follows.
 unfoldable pub after_verdict : Verdict → Answer → Answer
-after_verdict verdict.Good next = next
-after_verdict (verdict.Refused r) next = Refused r
+after_verdict (Ok _) next = next
+after_verdict (Err r) next = Err r
 
 unfoldable pub the_answer : ℕ → List Row → (plan_lent arrivals_lent : ℕ) → Answer
 the_answer n rows plan_lent arrivals_lent =
@@ -80,21 +82,21 @@ the_answer n rows plan_lent arrivals_lent =
 
 -- Document 01's number for an answer: 0 for an acceptance, and a refusal's own.
 unfoldable pub number_of : Answer → ℕ
-number_of (Accepted s) = 0
-number_of (Refused r) = r.number
+number_of (Ok s) = 0
+number_of (Err r) = r.number
 
 -- What an area holds after an answer: the list given where the table is accepted, as many zeros where it is late, each
 -- with what stood behind it; else what it held before.
 unfoldable pub area_after : Answer → (given before : List ℕ) → List ℕ
-area_after (Accepted s) given before = given ++ drop (length given) before
-area_after (Refused r) given before =
+area_after (Ok s) given before = given ++ drop (length given) before
+area_after (Err r) given before =
     cond (eqb r.number 9) (replicate (length given) 0 ++ drop (length given) before) before
 
 -- The looks that are reported with an answer: those given where the table is accepted or late; else none, since the
 -- rule was not applied.
 unfoldable pub looks_after : Answer → (given : ℕ) → ℕ
-looks_after (Accepted s) given = given
-looks_after (Refused r) given = cond (eqb r.number 9) given 0
+looks_after (Ok s) given = given
+looks_after (Err r) given = cond (eqb r.number 9) given 0
 
 -- The full outcome of planning: the answer, the looks, and every entry of both lent areas.
 pub record Planned (n : ℕ) (rows : List Row) (plan arrivals : List ℕ) (reply : Reply)

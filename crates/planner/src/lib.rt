@@ -2,19 +2,14 @@
 #![tactic(auto)]
 
 ghost use Rattle.std.specs.Prelude.{◌≡◌, length, ◌≤◌};
-ghost use Rattle.lists.specs.Lists.{total};
-ghost use Rattle.table.specs.Table.{judge_all, refuse};
-ghost use Rattle.table.specs.Steps.{listed, rows_of};
-ghost use Rattle.cells.specs.Rows.{freight};
-ghost use Rattle.rows.specs.Steps.{Loaded};
+ghost use Rattle.table.specs.Table.{cells_in, lengths, WellFormed};
 ghost use Rattle.planner.specs.Planner.{Planned, quotient, summary_of};
-ghost use Rattle.planner.specs.Steps.{crossed, RunPlanned, turned_away, Tabled, GoodPlanned};
+ghost use Rattle.planner.specs.Steps.{crossed, room_for, JustRoom, RunPlanned};
 
-use lent::load;
 use lists::{greatest, sum, zeros};
 use ring::Slot;
 use rows::run_rows;
-use table::{Columns, Refusal, Row, Verdict, judge_columns, measure};
+use table::{Refusal, Row, judge, last_due, measure};
 
 // What an accepted table comes to.
 #[derive(Clone, Copy)]
@@ -26,21 +21,15 @@ pub struct Summary {
     pub share: f64,
 }
 
-// The planner's answer.
-#[derive(Clone, Copy)]
-pub enum Answer {
-    Accepted(Summary),
-    Refused(Refusal),
-}
-
 // What planning reports: the answer, and how many looks it took.
 #[derive(Clone, Copy)]
 pub struct Reply {
-    pub answer: Answer,
+    pub answer: Result<Summary, Refusal>,
     pub looks: u32,
 }
 
 // One division of whole numbers, 0 where there is nothing to divide by.
+#[tactic(auto, using(std::proofs::lemmas::Bool::Decides::nat_tests), unfolding(crate::specs::Planner::quotient))]
 fn divide(a: u32, b: u32) -> f64
     ensures { result ≡ quotient a b }
 {
@@ -51,6 +40,7 @@ fn divide(a: u32, b: u32) -> f64
 }
 
 // The figures of a run in which every row arrived.
+#[tactic(auto, unfolding(crate::specs::Planner::summary_of))]
 fn sum_up(sends: u32, time: u32, arrivals: &[u16]) -> Summary
     requires { length arrivals.now ≤ 512 }
     ensures { result ≡ summary_of (length arrivals.now) sends time arrivals.now }
@@ -67,138 +57,61 @@ fn sum_up(sends: u32, time: u32, arrivals: &[u16]) -> Summary
     }
 }
 
-// The sends of rows with so many cells and links to go: one for each link of each cell.
-fn count_sends(len: &[u16], links: &[u16]) -> u32
-    requires { (length links.now ≡ length len.now) × (total len.now ≤ 1024) }
-    ensures { result ≡ crossed len.now links.now }
+// The sends of rows that have so many links to go: one for each link of each cell.
+fn count_sends(rows: &[Row], links: &[u16]) -> u32
+    requires { (length links.now ≡ length rows.now) × (cells_in rows.now ≤ 1024) }
+    ensures { result ≡ crossed (lengths rows.now) links.now }
 {
     let mut sends = 0u32;
-    let mut i = 0;
-    while i < len.len() {
-        sends += len[i] as u32 * links[i] as u32;
-        i += 1;
+    for (i, row) in rows.iter().enumerate() {
+        sends += row.len as u32 * links[i] as u32;
     }
     sends
 }
 
-// Plans a run in areas of just its size, and answers with its figures or with the late row.
-fn plan_run(
-    nodes: u16,
-    dst: &[u16],
-    len: &[u16],
-    due: &[u16],
-    links: &[u16],
-    plan: &mut [u16],
-    arrivals: &mut [u16],
-) -> Reply
-    requires { Loaded (freight nodes dst.now len.now due.now links.now) plan.old arrivals.old }
-    ensures { RunPlanned (freight nodes dst.now len.now due.now
-        links.now) (length plan.old) result plan.new arrivals.new }
+// Plans a well-formed table in areas of just its size, and answers with its figures or with the late row.
+#[tactic(auto, using(crate::proofs::Good::rows_few))]
+fn plan_good(nodes: u16, rows: &[Row], plan: &mut [u16], arrivals: &mut [u16]) -> Reply
+    requires { WellFormed nodes rows.now × JustRoom nodes rows.now plan.old arrivals.old }
+    ensures { RunPlanned nodes rows.now result plan.new arrivals.new }
 {
-    let sends = count_sends(len, links);
-    let ending = run_rows(nodes, dst, len, due, links, plan, arrivals);
-    let looks = ending.looks;
+    let count = rows.len();
+    let mut links: [u16; 512] = zeros();
+    let links = &mut links[..count];
+    measure(nodes, rows, links);
+    let sends = count_sends(rows, links);
+    let ending = run_rows(nodes, rows, links, plan, arrivals);
     let stop = ending.stop;
-    if stop.row == 0 {
+    let answer = if stop.row == 0 {
         let time = nodes as u32 * greatest(arrivals) as u32;
-        let answer = Answer::Accepted(sum_up(sends, time, arrivals));
-        Reply { answer, looks }
+        Ok(sum_up(sends, time, arrivals))
     } else {
-        let slot = stop.slot;
-        let answer = Answer::Refused(Refusal {
+        Err(Refusal {
             number: 9,
             row: stop.row,
-            slot,
-        });
-        Reply { answer, looks }
+            slot: stop.slot,
+        })
+    };
+    Reply {
+        answer,
+        looks: ending.looks,
     }
 }
 
-// A refusal before the rule is applied, without a look.
-fn turn_away(refusal: Refusal) -> Reply
-    ensures { result ≡ turned_away refusal }
+// How many entries of the plan a table uses; or the refusal of a table that is no good, or of an area that is too short.
+#[tactic(auto, using(std::proofs::lemmas::Bool::Decides::nat_tests), unfolding(crate::specs::Steps::room_for, crate::specs::Steps::before_run))]
+fn find_room(nodes: u16, rows: &[Row], plan: usize, arrivals: usize) -> Result<usize, Refusal>
+    ensures { result ≡ room_for nodes rows.now plan arrivals }
 {
-    let answer = Answer::Refused(refusal);
-    Reply { answer, looks: 0 }
-}
-
-// Such a refusal that names neither row nor slot.
-fn refusal(number: u16) -> Reply
-    ensures { result ≡ turned_away (refuse number 0 0) }
-{
-    turn_away(Refusal {
-        number,
-        row: 0,
-        slot: Slot(0),
-    })
-}
-
-// Plans a well-formed table: refuses areas that are too short, and else plans its run in their fronts.
-fn plan_good(
-    nodes: u16,
-    src: &[u16],
-    dst: &[u16],
-    len: &[u16],
-    due: &[u16],
-    plan: &mut [u16],
-    arrivals: &mut [u16],
-) -> Reply
-    requires { Tabled nodes src.now dst.now len.now due.now
-        × (judge_all nodes (rows_of src.now dst.now len.now due.now) ≡ Verdict.Good) }
-    ensures { GoodPlanned nodes
-        (rows_of src.now dst.now len.now due.now)
-        plan.old arrivals.old result plan.new arrivals.new }
-{
-    let rows = src.len();
-    let need = nodes as usize * greatest(due) as usize;
-    if plan.len() < need {
-        return refusal(7);
+    judge(nodes, rows)?;
+    let need = nodes as usize * last_due(rows) as usize;
+    if plan < need {
+        return Err(Refusal::of_table(7));
     }
-    if arrivals.len() < rows {
-        return refusal(8);
+    if arrivals < rows.len() {
+        return Err(Refusal::of_table(8));
     }
-    let mut links = zeros();
-    measure(nodes, src, dst, &mut links[..rows]);
-    plan_run(
-        nodes,
-        dst,
-        len,
-        due,
-        &links[..rows],
-        &mut plan[..need],
-        &mut arrivals[..rows],
-    )
-}
-
-// Plans the first `rows` rows of the columns: the whole planner, on plain numbers.
-#[tactic(auto, using(table::proofs::Whole::rows_few, table::proofs::Whole::rows_front))]
-pub fn plan_columns(
-    nodes: u16,
-    rows: usize,
-    columns: Columns,
-    plan: &mut [u16],
-    arrivals: &mut [u16],
-) -> Reply
-    ensures { Planned nodes (listed rows columns) plan.old arrivals.old result
-        plan.new arrivals.new }
-{
-    let src = columns.src;
-    let dst = columns.dst;
-    let len = columns.len;
-    let due = columns.due;
-    let verdict = judge_columns(nodes, rows, &src, &dst, &len, &due);
-    match verdict {
-        Verdict::Refused(r) => turn_away(r),
-        Verdict::Good => plan_good(
-            nodes,
-            &src[..rows],
-            &dst[..rows],
-            &len[..rows],
-            &due[..rows],
-            plan,
-            arrivals,
-        ),
-    }
+    Ok(need)
 }
 
 // Plans a table: the lent plan says which row each link carries in each slot, the lent arrivals when each row is there.
@@ -207,6 +120,11 @@ pub fn plan(nodes: u16, rows: &[Row], plan: &mut [u16], arrivals: &mut [u16]) ->
         arrivals.new }
 {
     let count = rows.len();
-    let columns = load(rows);
-    plan_columns(nodes, count, columns, plan, arrivals)
+    match find_room(nodes, rows, plan.len(), arrivals.len()) {
+        Err(refusal) => Reply {
+            answer: Err(refusal),
+            looks: 0,
+        },
+        Ok(used) => plan_good(nodes, rows, &mut plan[..used], &mut arrivals[..count]),
+    }
 }

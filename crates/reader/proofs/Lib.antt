@@ -1,5 +1,3 @@
-mod ColumnLaws
 mod Loading
 mod Heading
-mod Parsing
-pub mod Lent
+mod Taking

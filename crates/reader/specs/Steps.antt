@@ -1,20 +1,10 @@
--- What the inner functions say: rows and texts read into columns.
-use Rattle.std.specs.Prelude.{ℕ, ◌≡◌, List}
-use Rattle.table.specs.Steps.{columns}
-use Rattle.text.specs.declared.Header.{Header}
-use Rattle.text.specs.declared.Reading.{Reading}
-use Rattle.text.specs.declared.Reading.TheVariants.{Read}
-use Rattle.text.specs.Text.{wrong_line, rows_keys, rows_at, reading_of, rows_read}
-use Rattle.text.specs.Steps.{held}
+-- What the reader of the rows says.
+use Rattle.std.specs.Prelude.{ℕ, ◌≡◌, ◌≤◌, List, Result, Ok, Err}
+use Rattle.arrayvec.specs.ArrayVec.{ArrayVec}
+use Rattle.table.specs.declared.Row.{Row}
+use Rattle.text.specs.Text.{wrong_line, rows_keys, rows_at}
 
--- The lines of n rows were read: the answer is the first wrong line, and where none is, they are the columns of the
--- rows.
-pub record RowsTaken (n : ℕ) (text : List ℕ) (answer : ℕ) (src dst len due : List ℕ) : Type 0 where
-  pub judged : answer ≡ wrong_line (rows_keys n) text 3
-  pub rows : answer ≡ 0 → held src dst len due ≡ columns (rows_at n text)
-
--- A text was read into columns: the answer is what the reading comes to, and where it is read, they are the columns of
--- the rows that it gives.
-pub record TextRead (text : List ℕ) (lent : ℕ) (answer : Reading) (src dst len due : List ℕ) : Type 0 where
-  pub judged : answer ≡ reading_of text lent
-  pub rows : (h : Header) → answer ≡ Read h → held src dst len due ≡ columns (rows_read text lent)
+-- The lines of n rows were read: no line is wrong, and these are the rows, or this is the first wrong line.
+abbrev pub RowsRead : (n : ℕ) (text : List ℕ) → Result (ArrayVec Row) ℕ → Type 0
+RowsRead n text (Ok rows) = (wrong_line (rows_keys n) text 3 ≡ 0) × (rows.items ≡ rows_at n text)
+RowsRead n text (Err line) = (line ≡ wrong_line (rows_keys n) text 3) × (1 ≤ line)

@@ -1,142 +1,82 @@
-// Reads the text of a table: line by line into columns, and from columns into the lent rows.
+// Reads the text of a table, line by line, into rows.
 #![tactic(auto)]
 
-ghost use Rattle.std.specs.Prelude.{◌≡◌, ℕ, ◌≤◌, length, drop, replicate};
-ghost use Rattle.table.specs.Table.{refuse};
-ghost use Rattle.text.specs.Text.{TextParsed, filled, TextTaken};
-ghost use Rattle.reader.specs.Steps.{RowsTaken, TextRead};
+ghost use Rattle.std.specs.Prelude.{◌≤◌};
+ghost use Rattle.text.specs.Text.{TextTaken};
+ghost use Rattle.reader.specs.Reader.{TextParsed};
+ghost use Rattle.reader.specs.Steps.{RowsRead};
 
-use lent::{blank, store_rows};
-use lines::{Item, RowSeen, line_at, row_at};
-use lists::zeros;
-use ring::Slot;
-use table::{Columns, Refusal, Row};
-use text::{Header, Parsed, ROW_LINES, Reading};
+use arrayvec::ArrayVec;
+use lines::{line_at, row_at};
+use table::{Refusal, Row};
+use text::{Header, ROW_LINES};
 
-// Reads the lines of so many rows into four columns: the number of the first wrong line, 0 where none is.
-fn read_rows(
-    text: &[u8],
-    from: usize,
-    rows: usize,
-    src: &mut [u16; 512],
-    dst: &mut [u16; 512],
-    len: &mut [u16; 512],
-    due: &mut [u16; 512],
-) -> u16
-    requires { (from ≤ length text.now) × (rows ≤ 512) × (src.old ≡ replicate {A = ℕ} 512 0)
-        × (dst.old ≡ replicate {A = ℕ} 512 0) × (len.old ≡ replicate {A = ℕ} 512 0)
-        × (due.old ≡ replicate {A = ℕ} 512 0) }
-    ensures { RowsTaken rows (drop from text.now) result src.new dst.new
-        len.new due.new }
+// A text that was read: the head of its table, and the rows.
+#[derive(Drop)]
+pub struct Parsed {
+    pub head: Header,
+    pub rows: ArrayVec<Row, 512>,
+}
+
+// Reads the lines of so many rows, and nothing behind them, or finds the first that is wrong.
+fn read_rows(text: &[u8], count: usize) -> Result<ArrayVec<Row, 512>, u16>
+    requires { count ≤ 512 }
+    ensures { RowsRead count text.now result }
 {
-    let mut at = from;
+    let mut rows = ArrayVec::new();
+    let mut rest = text;
     let mut line = 3u16;
-    let mut i = 0;
-    while i < rows {
-        match row_at(text, at) {
-            RowSeen::Broken(k) => return line + k,
-            RowSeen::Whole(row, next) => {
-                src[i] = row.src;
-                dst[i] = row.dst;
-                len[i] = row.len;
-                due[i] = row.due;
-                at = next;
+    for _ in 0..count {
+        match row_at(rest) {
+            Ok(seen) => {
+                rows.push(seen.row);
+                rest = &rest[seen.length..];
             }
+            Err(right) => return Err(line + right),
         }
         line += ROW_LINES as u16;
-        i += 1;
     }
-    if at < text.len() {
-        return line;
+    if !rest.is_empty() {
+        return Err(line);
     }
-    0
+    Ok(rows)
 }
 
-// A refused reading.
-fn refused(number: u16, row: u16) -> Reading
-    ensures { result ≡ Reading.Refused (refuse number row 0) }
-{
-    Reading::Refused(Refusal {
-        number,
-        row,
-        slot: Slot(0),
-    })
-}
-
-// Reads a text into four columns.
-fn read_columns(
-    text: &[u8],
-    lent: usize,
-    src: &mut [u16; 512],
-    dst: &mut [u16; 512],
-    len: &mut [u16; 512],
-    due: &mut [u16; 512],
-) -> Reading
-    requires { (src.old ≡ replicate {A = ℕ} 512 0) × (dst.old ≡ replicate {A = ℕ} 512 0)
-        × (len.old ≡ replicate {A = ℕ} 512 0) × (due.old ≡ replicate {A = ℕ} 512 0) }
-    ensures { TextRead text.now lent result src.new dst.new len.new
-        due.new }
-{
-    let Item::Good(nodes, second) = line_at(text, 0, b"nodes=") else {
-        return refused(20, 1);
-    };
-    let Item::Good(rows, third) = line_at(text, second, b"rows=") else {
-        return refused(20, 2);
-    };
-    let count = rows as usize;
-    if 512 < count {
-        return refused(2, 0);
-    }
-    if lent < count {
-        return refused(21, 0);
-    }
-    let line = read_rows(text, third, count, src, dst, len, due);
-    if line == 0 {
-        return Reading::Read(Header { nodes, rows });
-    }
-    refused(20, line)
-}
-
-// The number of rows that a reading fills.
-fn rows_filled(reading: Reading) -> usize
-    ensures { result ≡ filled reading }
-{
-    match reading {
-        Reading::Read(head) => head.rows as usize,
-        Reading::Refused(_) => 0,
-    }
-}
-
-// Reads a text, where so many records are lent: what it comes to, and the rows by columns.
-pub fn parse(text: &[u8], lent: usize) -> Parsed
+// Reads a text, where so many records are lent: the lines of the heading first, and then those of the rows.
+pub fn parse(text: &[u8], lent: usize) -> Result<Parsed, Refusal>
     ensures { TextParsed text.now lent result }
 {
-    let mut src = zeros();
-    let mut dst = zeros();
-    let mut len = zeros();
-    let mut due = zeros();
-    let reading = read_columns(text, lent, &mut src, &mut dst, &mut len, &mut due);
-    let rows = rows_filled(reading);
-    if rows == 0 {
-        return Parsed {
-            reading,
-            rows,
-            columns: blank(),
-        };
+    let Some(nodes) = line_at(text, b"nodes=") else {
+        return Err(Refusal::of_row(20, 1));
+    };
+    let second = &text[nodes.length..];
+    let Some(rows) = line_at(second, b"rows=") else {
+        return Err(Refusal::of_row(20, 2));
+    };
+    let count = rows.value as usize;
+    if 512 < count {
+        return Err(Refusal::of_table(2));
     }
-    Parsed {
-        reading,
-        rows,
-        columns: Columns { src, dst, len, due },
+    if lent < count {
+        return Err(Refusal::of_table(21));
+    }
+    match read_rows(&second[rows.length..], count) {
+        Ok(read) => Ok(Parsed {
+            head: Header {
+                nodes: nodes.value,
+                rows: rows.value,
+            },
+            rows: read,
+        }),
+        Err(line) => Err(Refusal::of_row(20, line)),
     }
 }
 
 // Reads a text into the lent rows: an accepted one fills as many as it has, and a refused one none.
-pub fn read(text: &[u8], rows: &mut [Row]) -> Reading
+pub fn read(text: &[u8], rows: &mut [Row]) -> Result<Header, Refusal>
     ensures { TextTaken text.now rows.old result rows.new }
 {
-    let lent = rows.len();
-    let parsed = parse(text, lent);
-    store_rows(rows, parsed.columns, parsed.rows);
-    parsed.reading
+    let parsed = parse(text, rows.len())?;
+    rows[..parsed.rows.len()].copy_from_slice(&parsed.rows);
+    Ok(parsed.head)
 }

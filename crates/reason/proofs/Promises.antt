@@ -8,21 +8,20 @@
 -- Assumes nothing.
 use mathlib.Core.Path.{◌≡◌, refl, ◌∙◌, ap, sym}
 use mathlib.Core.Logic.{◌↔◌}
-use Prim.Native.Nat.{ℕ, ◌≤◌, ◌<◌}
+use Prim.Native.Nat.{ℕ, ◌<◌, ◌≤◌}
 use native.Mathlib.Omega.{arith}
 use mathlib.Core.Bool.{Bool, true, false, cond}
 use mathlib.Core.List.{List, ◌++◌}
-use borrow.Author.Tests.{ltb-true, eqb-false}
-use lib.Dec.{eqb, ltb}
+use borrow.Author.Tests.{ltb-true}
+use lib.Dec.{ltb}
 use lib.ListN.{length, take, drop}
 use lib.Seq.{take_at}
+use Rattle.std.proofs.Common.{Some, Ok, Err, IsSomeAnd}
 use Rattle.lists.specs.Lists.{total}
 use Rattle.lists.proofs.Build.{length-build}
 use Rattle.table.specs.declared.Row.{Row}
 use Rattle.table.specs.declared.Refusal.{Refusal}
-use Rattle.table.specs.declared.Verdict.{Verdict}
-use Rattle.table.specs.declared.Verdict.TheVariants as verdict
-use Rattle.table.specs.Table.{WellFormed, judge, refuse, last_due}
+use Rattle.table.specs.Table.{Verdict, WellFormed, judge, refuse, last_due}
 use Rattle.table.proofs.Whole.{table_early}
 use Rattle.cells.specs.Rows.{Freight, cell_links}
 use Rattle.cells.specs.Cells.{cell_traffic}
@@ -30,22 +29,22 @@ use Rattle.best.proofs.Order.{laid_on_ring}
 use Rattle.best.proofs.Best.{cell_dues_lem}
 use Rattle.planner.specs.declared.Reply.{Reply}
 use Rattle.planner.specs.Planner.{freight_of, number_of, Planned, ScheduleOf, Plannable}
-use Rattle.planner.proofs.Promises.{table_laden, due_in_time, lengths_long, late_iff_no_schedule}
+use Rattle.cells.proofs.Laying.{lengths_long}
+use Rattle.planner.proofs.Good.{table_laden}
+use Rattle.planner.proofs.Promises.{due_in_time, late_iff_no_schedule}
 use Rattle.jam.specs.declared.Jam.{Jam}
 use Rattle.jam.specs.Jam.{crossing, overfull}
 use Rattle.jam.specs.Members.{row_jam, of_row, members_of}
-use Rattle.jam.proofs.Search.{Found, jam_found}
+use Rattle.jam.proofs.Search.{Found, HasCells, jam_found}
 use Rattle.jam.proofs.Links.{fewest}
 use Rattle.jam.proofs.Rows.{late_iff_jam, members_sum}
 use Rattle.jam.proofs.Alone.{Among, members_late}
-use Rattle.reason.specs.declared.Reason.{Reason}
-use Rattle.reason.specs.declared.Reason.TheVariants.{Jammed, Clear, Refused}
-use Rattle.reason.specs.Reason.{jam_of, say_jam, after_verdict, the_reason, members_after, Reasoned}
+use Rattle.reason.specs.Reason.{Reason, jam_of, after_verdict, the_reason, members_after, Reasoned}
 
 -- Planning with room gives 9 exactly when the table has a jam.
 pub refused_iff_jam : {n : ℕ} {rows : List Row} {plan arrivals plan' arrivals' : List ℕ} {r : Reply}
     → Plannable n rows plan arrivals → Planned n rows plan arrivals r plan' arrivals'
-    → (number_of r.answer ≡ 9) ↔ (0 < (jam_of n rows).cells)
+    → (number_of r.answer ≡ 9) ↔ HasCells (jam_of n rows)
 unfolding jam_of
 refused_iff_jam {n} {rows} k out =
     let well = k.well_formed in
@@ -58,53 +57,44 @@ module _ (n : ℕ) (rows : List Row) (well : WellFormed n rows) where
   abbrev F : Freight
   F = freight_of n rows
 
-  its_jam : 0 < (jam_of n rows).cells → Found (cell_traffic F) (cell_links F) (last_due rows) (jam_of n rows)
+  its_jam : {jam : Jam} → jam_of n rows ≡ Some jam → Found (cell_traffic F) (cell_links F) (last_due rows) jam
   unfolding jam_of row_jam
-  its_jam some = jam_found (cell_traffic F) (cell_links F) (last_due rows) some
+  its_jam = jam_found (cell_traffic F) (cell_links F) (last_due rows)
 
   -- No overfull link of a well-formed table, before any slot, has fewer cells than its jam.
   pub none_has_fewer : (p b : ℕ) → p < n → overfull (cell_traffic F) (cell_links F) p b ≡ true
-      → (0 < (jam_of n rows).cells) × ((jam_of n rows).cells ≤ crossing (cell_traffic F) (cell_links F) p b)
+      → IsSomeAnd (jam_of n rows) (λ best. (0 < best.cells) × (best.cells ≤ crossing (cell_traffic F) (cell_links F) p b))
   unfolding jam_of row_jam
   none_has_fewer p b inside over =
       fewest (laid_on_ring F (table_laden n rows well))
       (cell_dues_lem {F = F} {slots = last_due rows} (table_laden n rows well) (due_in_time n rows well))
       p b (unfold cell_traffic in inside) over
 
--- A table is said to be jammed only where it is well-formed, has an entry for each row, and a jam with cells.
-record Told (n : ℕ) (rows : List Row) (members : List ℕ) (jam : Jam) : Type 0 where
+-- A table is said to be jammed only where it is well-formed, has an entry for each row, and a jam.
+record Told (n : ℕ) (rows : List Row) (jam : Jam) : Type 0 where
   well_formed : WellFormed n rows
-  is : jam ≡ jam_of n rows
-  some : 0 < jam.cells
+  is : jam_of n rows ≡ Some jam
 
 jam_told : {n : ℕ} {rows : List Row} {members members' : List ℕ} {jam : Jam} {r : Reason}
-    → Reasoned n rows members r members' → r ≡ Jammed jam → Told n rows members jam
-unfolding the_reason after_verdict say_jam
+    → Reasoned n rows members r members' → r ≡ Ok (Some jam) → Told n rows jam
+unfolding the_reason after_verdict
 jam_told {n} {rows} {members} {members'} {jam} {r} out e =
-    by_verdict (judge n rows) refl (ltb (length members) (length rows)) (eqb (jam_of n rows).cells 0) refl
-    (sym out.answers ∙ e)
+    by_verdict (judge n rows) refl (ltb (length members) (length rows)) (sym out.answers ∙ e)
   where
-    by_verdict : (v : Verdict) → judge n rows ≡ v → (a b : Bool) → eqb (jam_of n rows).cells 0 ≡ b
-        → after_verdict v (cond a (Refused (refuse 8 0 0)) (cond b Clear (Jammed (jam_of n rows)))) ≡ Jammed jam
-        → Told n rows members jam
-    by_verdict (verdict.Refused x) f a b g h = absurd (let z : ◌≡◌ {A = ℕ} 2 0 = cc in omega arith)
-    by_verdict verdict.Good f true b g h = absurd (let z : ◌≡◌ {A = ℕ} 2 0 = cc in omega arith)
-    by_verdict verdict.Good f false true g h = absurd (let z : ◌≡◌ {A = ℕ} 1 0 = cc in omega arith)
-    by_verdict verdict.Good f false false g h =
-        let same : jam_of n rows ≡ jam = cc in
-        record {
-          well_formed = f;
-          is = sym same;
-          some = rw (sym same) (omega (arith, eqb-false (jam_of n rows).cells 0 g));
-        }
+    by_verdict : (v : Verdict) → judge n rows ≡ v → (a : Bool)
+        → ◌≡◌ {A = Reason} (after_verdict v (cond a (Err (refuse 8 0 0)) (Ok (jam_of n rows)))) (Ok (Some jam))
+        → Told n rows jam
+    by_verdict (Err x) f a h = absurd cc
+    by_verdict (Ok tt) f true h = absurd cc
+    by_verdict (Ok tt) f false h = record { well_formed = f; is = cc }
 
 module _ {n : ℕ} {rows : List Row} {members members' : List ℕ} {r : Reason} {jam : Jam}
-    (out : Reasoned n rows members r members') (is : r ≡ Jammed jam) where
-  told : Told n rows members jam
+    (out : Reasoned n rows members r members') (is : r ≡ Ok (Some jam)) where
+  told : Told n rows jam
   told = jam_told out is
 
   overfull_there : Found (cell_traffic (freight_of n rows)) (cell_links (freight_of n rows)) (last_due rows) jam
-  overfull_there = rw told.is (its_jam n rows told.well_formed (rw (sym told.is) told.some))
+  overfull_there = its_jam n rows told.well_formed told.is
 
   -- The cells marked are as many as said, and more than the slots before.
   pub members_are_cells : (total (take (length rows) members') ≡ jam.cells) × (jam.before.0 < jam.cells)
@@ -133,17 +123,13 @@ module _ {n : ℕ} {rows : List Row} {members members' : List ℕ} {r : Reason} 
 
 -- 9 is never given: late is what the answer is about, not a refusal of it.
 pub never_nine : {n : ℕ} {rows : List Row} {members members' : List ℕ} {r : Reason} {x : Refusal}
-    → Reasoned n rows members r members' → r ≡ Refused x → x.number ≡ 9 → ⊥
-unfolding the_reason after_verdict say_jam
+    → Reasoned n rows members r members' → r ≡ Err x → x.number ≡ 9 → ⊥
+unfolding the_reason after_verdict
 never_nine {n} {rows} {members} {members'} {r} {x} out e z =
-    by_verdict (judge n rows) refl (ltb (length members) (length rows)) (eqb (jam_of n rows).cells 0)
-    (sym out.answers ∙ e)
+    by_verdict (judge n rows) refl (ltb (length members) (length rows)) (sym out.answers ∙ e)
   where
-    by_verdict : (v : Verdict) → judge n rows ≡ v → (a b : Bool)
-        → after_verdict v (cond a (Refused (refuse 8 0 0)) (cond b Clear (Jammed (jam_of n rows)))) ≡ Refused x → ⊥
-    by_verdict (verdict.Refused y) f a b h =
-        let number : y.number ≡ x.number = cc in
-        table_early n rows y f (number ∙ z)
-    by_verdict verdict.Good f true b h = let number : ◌≡◌ {A = ℕ} 8 x.number = cc in omega arith
-    by_verdict verdict.Good f false true h = let z : ◌≡◌ {A = ℕ} 1 2 = cc in omega arith
-    by_verdict verdict.Good f false false h = let z : ◌≡◌ {A = ℕ} 0 2 = cc in omega arith
+    by_verdict : (v : Verdict) → judge n rows ≡ v → (a : Bool)
+        → ◌≡◌ {A = Reason} (after_verdict v (cond a (Err (refuse 8 0 0)) (Ok (jam_of n rows)))) (Err x) → ⊥
+    by_verdict (Err y) f a h = let same : y ≡ x = cc in table_early n rows x (f ∙ ap Err same) z
+    by_verdict (Ok tt) f true h = let number : 8 ≡ x.number = cc in omega arith
+    by_verdict (Ok tt) f false h = absurd cc

@@ -2,55 +2,47 @@
 -- Assumes nothing.
 use mathlib.Core.Path.{◌≡◌, refl, ◌∙◌, ap, sym}
 use mathlib.Core.List.{List, ◌++◌}
-use Prim.Native.Nat.{ℕ, ◌*◌, ◌≤◌}
-use native.Mathlib.Nat.{mul-le-mul, mul_comm}
+use Prim.Native.Nat.{ℕ, ◌*◌, ◌/◌, ◌≤◌}
+use Rattle.std.proofs.Math.Nat.{mul-div_cancel_left}
+use native.Mathlib.Nat.{mul_comm}
 use native.Mathlib.Omega.{arith}
-use lib.ListN.{length, take, drop, length-append}
+use lib.ListN.{length, take, drop, length-append, length-replicate, replicate}
 use lib.Seq.{take_at, length-take-le}
-use Rattle.lists.specs.Lists.{largest}
+use Rattle.std.proofs.Common.{Ok, Err}
 use Rattle.table.specs.declared.Row.{Row}
-use Rattle.table.specs.declared.Columns.{Columns}
 use Rattle.table.specs.declared.Refusal.{Refusal}
-use Rattle.table.specs.declared.Verdict.{Verdict}
-use Rattle.table.specs.declared.Verdict.TheVariants as verdict
-use Rattle.table.specs.Table.{judge, WellFormed, dues, last_due}
-use Rattle.table.specs.Steps.{listed, Columned}
-use Rattle.table.proofs.Rows.{length-listed}
-use Rattle.table.proofs.Judging.{its_dues}
+use Rattle.table.specs.Table.{Verdict, judge, WellFormed, last_due}
+use Rattle.table.proofs.Whole.{Sound, sound}
 use Rattle.best.proofs.Best.{row_plan_long}
-use Rattle.planner.specs.declared.Answer.{Answer}
+use Rattle.cells.proofs.Laying.{lengths_long}
 use Rattle.planner.specs.declared.Reply.{Reply}
 use Rattle.planner.specs.declared.Summary.{Summary}
-use Rattle.planner.specs.declared.Answer.TheVariants.{Accepted, Refused}
-use Rattle.planner.specs.Planner.{freight_of, the_plan, the_arrivals, answer_to_rows, after_verdict, the_answer, area_after}
+use Rattle.planner.specs.Planner.{Answer, freight_of, the_plan, the_arrivals, answer_to_rows, after_verdict, the_answer, area_after}
 use Rattle.planner.specs.Planner.{Planned}
 use Rattle.planner.proofs.Answering.{arrivals_long}
-use Rattle.planner.proofs.Good.{soon}
-use Rattle.table.proofs.Rows.{listed_fronts, fronts_same}
-use Rattle.table.proofs.Whole.{Sound, sound}
-use Rattle.planner.proofs.Promises.{tabled, all_good, lengths_long, table_laden}
+use Rattle.planner.proofs.Good.{soon, table_laden}
 use Rattle.report.specs.Report.{verdict_lines, accepted_text, answer_text, table_text}
 use Rattle.text.specs.Steps.{Room}
 use Rattle.report.specs.Steps.{Slotted}
 use Rattle.report.proofs.Sizes.{verdict_most, accepted_most}
 
 -- the accepted table was judged to be good
-module _ (n : ℕ) (rows : List Row) (s : Summary) (is : the_answer n rows 32768 512 ≡ Accepted s) where
+module _ (n : ℕ) (rows : List Row) (s : Summary) (is : the_answer n rows 32768 512 ≡ Ok s) where
   well : WellFormed n rows
   unfolding the_answer after_verdict
   well = go (judge n rows) refl is
     where
-      go : (v : Verdict) → judge n rows ≡ v → after_verdict v (answer_to_rows n rows 32768 512) ≡ Accepted s
-          → judge n rows ≡ verdict.Good
-      go verdict.Good e f = e
-      go (verdict.Refused r) e f = let never : ◌≡◌ {A = ℕ} 0 1 = cc in absurd (omega arith)
+      go : (v : Verdict) → judge n rows ≡ v → after_verdict v (answer_to_rows n rows 32768 512) ≡ Ok s
+          → judge n rows ≡ Ok tt
+      go (Ok u) e f = e
+      go (Err r) e f = absurd cc
 
   pub its_size : Sound n rows
   its_size = sound n rows well
 
   pub due_soon : last_due rows ≤ 1024
   unfolding last_due
-  due_soon = soon (tabled n rows well) (all_good n rows well)
+  due_soon = soon n rows well
 
   pub plan_long : length (the_plan n rows) ≡ n * last_due rows
   unfolding the_plan
@@ -67,115 +59,100 @@ table_most n rows = go (the_answer n rows 32768 512) refl
   where
     go : (r : Answer) → the_answer n rows 32768 512 ≡ r
         → length (answer_text r (the_arrivals n rows) n (last_due rows) (the_plan n rows)) ≤ 212992
-    go (Accepted s) e =
+    go (Ok s) e =
         let k = its_size n rows s e in
         accepted_most s.last.0 (the_arrivals n rows) n (last_due rows) (the_plan n rows)
         (omega (arith, arrivals_each n rows s e, k.few)) k.most (due_soon n rows s e)
-    go (Refused r) e = omega (arith, verdict_most r)
+    go (Err r) e = omega (arith, verdict_most r)
 
--- As `respond_table` finds it: the rows by columns, the areas that it lends, and what they hold after planning.
-pub record Answered (n count : ℕ) (c : Columns) (r : Reply) (plan' arrivals' : List ℕ) : Type 0 where
+-- As `respond_table` finds it: the rows, the areas that it lends, and what they hold after planning.
+pub record Answered (n : ℕ) (rows : List Row) (r : Reply) (plan' arrivals' : List ℕ) : Type 0 where
   pub plan : List ℕ
   pub arrivals : List ℕ
   pub plan_all : length plan ≡ 32768
   pub arrivals_all : length arrivals ≡ 512
-  pub out : Planned n (listed count c) plan arrivals r plan' arrivals'
-  pub columned : Columned c
+  pub out : Planned n rows plan arrivals r plan' arrivals'
 
-module _ {n count : ℕ} {c : Columns} {r : Reply} {plan' arrivals' : List ℕ}
-    (k : Answered n count c r plan' arrivals') where
-  abbrev table : List Row
-  table = listed count c
+-- the lent areas are blank before
+pub answered : {n : ℕ} {rows : List Row} {r : Reply} {plan arrivals plan' arrivals' : List ℕ}
+    → plan ≡ replicate {A = ℕ} 32768 0 → arrivals ≡ replicate {A = ℕ} 512 0 → Planned n rows plan arrivals r plan' arrivals'
+    → Answered n rows r plan' arrivals'
+answered {plan = plan} {arrivals = arrivals} p a out =
+    record {
+      plan = plan;
+      arrivals = arrivals;
+      plan_all = ap length p ∙ length-replicate {A = ℕ} 32768 0;
+      arrivals_all = ap length a ∙ length-replicate {A = ℕ} 512 0;
+      out = out;
+    }
 
-  its_answer : the_answer n table 32768 512 ≡ r.answer
+module _ {n : ℕ} {rows : List Row} {r : Reply} {plan' arrivals' : List ℕ}
+    (k : Answered n rows r plan' arrivals') where
+  its_answer : the_answer n rows 32768 512 ≡ r.answer
   its_answer = sym (k.out.answers ∙ rw (k.plan_all, k.arrivals_all))
 
-  pub refused_is : {x : Refusal} → r.answer ≡ Refused x → table_text n table ≡ verdict_lines x
+  pub refused_is : {x : Refusal} → r.answer ≡ Err x → table_text n rows ≡ verdict_lines x
   unfolding table_text answer_text
   refused_is e = rw (its_answer, e)
 
-  module _ {s : Summary} (e : r.answer ≡ Accepted s) where
-    is : the_answer n table 32768 512 ≡ Accepted s
+  module _ {s : Summary} (e : r.answer ≡ Ok s) where
+    is : the_answer n rows 32768 512 ≡ Ok s
     is = its_answer ∙ e
 
-    size : Sound n table
-    size = its_size n table s is
+    size : Sound n rows
+    size = its_size n rows s is
 
-    pub few_rows : count ≤ 512
-    few_rows = omega (arith, size.few, length-listed count c)
-
-    plan_there : plan' ≡ the_plan n table ++ drop (length (the_plan n table)) k.plan
+    plan_there : plan' ≡ the_plan n rows ++ drop (length (the_plan n rows)) k.plan
     unfolding area_after
     plan_there = k.out.fills_plan ∙ rw e
 
-    arrivals_there : arrivals' ≡ the_arrivals n table ++ drop (length (the_arrivals n table)) k.arrivals
+    arrivals_there : arrivals' ≡ the_arrivals n rows ++ drop (length (the_arrivals n rows)) k.arrivals
     unfolding area_after
     arrivals_there = k.out.fills_arrivals ∙ rw e
 
-    the_arrivals_lem : take count arrivals' ≡ the_arrivals n table
+    the_arrivals_lem : take (length rows) arrivals' ≡ the_arrivals n rows
     the_arrivals_lem =
-        ap (take count) arrivals_there
-        ∙ take_at (the_arrivals n table) _ count (arrivals_each n table s is ∙ length-listed count c)
+        ap (take (length rows)) arrivals_there
+        ∙ take_at (the_arrivals n rows) _ (length rows) (arrivals_each n rows s is)
 
-    pub arrivals_fit : count ≤ length arrivals'
+    pub arrivals_fit : length rows ≤ length arrivals'
     arrivals_fit =
-        let parts = length-append (the_arrivals n table) (drop (length (the_arrivals n table)) k.arrivals) in
-        omega (arith, ap length arrivals_there, parts, arrivals_each n table s is, length-listed count c)
+        let parts = length-append (the_arrivals n rows) (drop (length (the_arrivals n rows)) k.arrivals) in
+        omega (arith, ap length arrivals_there, parts, arrivals_each n rows s is)
 
-    pub arrivals_front : count ≡ length (take count arrivals')
-    arrivals_front = sym (length-take-le count arrivals' arrivals_fit)
+    pub arrivals_front : length rows ≡ length (take (length rows) arrivals')
+    arrivals_front = sym (length-take-le (length rows) arrivals' arrivals_fit)
 
-    its_due : dues table ≡ take count c.due
-    its_due =
-        let same = fronts_same count c few_rows k.columned in
-        ap dues (listed_fronts count c (omega (arith, few_rows, k.columned.src_all)))
-        ∙ its_dues (take count c.src) (take count c.dst) (take count c.len) (take count c.due) same
-
-    pub due_fits : count ≤ length c.due
-    due_fits = omega (arith, few_rows, k.columned.due_all)
-
-    pub due_front : count ≡ length (take count c.due)
-    due_front = sym (length-take-le count c.due due_fits)
-
-    -- the largest due slot of the rows, as it was computed
-    module _ {slots : ℕ} (found : slots ≡ largest (take count c.due)) where
-      last_is : slots ≡ last_due table
-      unfolding last_due
-      last_is = found ∙ ap largest (sym its_due)
-
-      pub entries_small : n * slots ≤ 32768
-      entries_small = rw last_is (mul-le-mul size.most (due_soon n table s is))
-
+    module _ {slots : ℕ} (last : slots ≡ last_due rows) where
       pub plan_fits : n * slots ≤ length plan'
       plan_fits =
-          let parts = length-append (the_plan n table) (drop (length (the_plan n table)) k.plan) in
-          rw last_is (omega (arith, ap length plan_there, parts, plan_long n table s is))
+          let parts = length-append (the_plan n rows) (drop (length (the_plan n rows)) k.plan) in
+          rw last (omega (arith, ap length plan_there, parts, plan_long n rows s is))
 
       pub plan_front : n * slots ≡ length (take (n * slots) plan')
       plan_front = sym (length-take-le (n * slots) plan' plan_fits)
 
-      the_plan_lem : take (n * slots) plan' ≡ the_plan n table
+      the_plan_lem : take (n * slots) plan' ≡ the_plan n rows
       the_plan_lem =
           ap (take (n * slots)) plan_there
-          ∙ take_at (the_plan n table) _ (n * slots) (plan_long n table s is ∙ rw last_is)
+          ∙ take_at (the_plan n rows) _ (n * slots) (plan_long n rows s is ∙ rw last)
 
-      pub slotted : Slotted n slots (take (n * slots) plan')
-      slotted = record {
-        some = omega (arith, size.least);
-        most = size.most;
-        soon =
-            rw last_is (due_soon n table s is);
-        room = sym plan_front;
-      }
+      -- so many slots has the front of the lent plan
+      slots_there : length (take (n * slots) plan') / n ≡ slots
+      slots_there = ap (λ (m : ℕ). m / n) (sym plan_front) ∙ mul-div_cancel_left slots (omega (arith, size.least))
 
-      pub accepted_is : table_text n table ≡ accepted_text s.last.0 (take count arrivals') n slots
-          (take (n * slots) plan')
+      pub slotted : Slotted n (take (n * slots) plan')
+      slotted = record { some = omega (arith, size.least); whole = rw slots_there (sym plan_front) }
+
+      pub accepted_is : table_text n rows ≡ accepted_text s.last.0 (take (length rows) arrivals') n
+          (length (take (n * slots) plan') / n) (take (n * slots) plan')
       unfolding table_text answer_text
-      accepted_is = rw (is, the_arrivals_lem, the_plan_lem, last_is)
+      accepted_is = rw (slots_there, is, the_arrivals_lem, the_plan_lem, last)
 
       pub accepted_fits : (area : List ℕ) → 212992 ≤ length area
-          → Room area 0 (accepted_text s.last.0 (take count arrivals') n slots (take (n * slots) plan'))
-      accepted_fits area h = omega (arith, table_most n table, ap length accepted_is)
+          → Room area 0 (accepted_text s.last.0 (take (length rows) arrivals') n (length (take (n * slots) plan') / n)
+          (take (n * slots) plan'))
+      accepted_fits area h = omega (arith, table_most n rows, ap length accepted_is)
 
 pub verdict_fits : (area : List ℕ) (r : Refusal) → 212992 ≤ length area → Room area 0 (verdict_lines r)
 verdict_fits area r h = omega (arith, verdict_most r)

@@ -7,9 +7,8 @@ use Prim.Native.Nat.{ℕ}
 use lib.Ieee.{div, of_int}
 use Rattle.lists.specs.Lists.{total, largest}
 use Rattle.ring.specs.Ring.{distance, standing}
-use Rattle.table.specs.Table.{row_refusal, judge_rows, cells_in, after_rows, judge_all, judge, destinations, lengths, dues}
+use Rattle.table.specs.Table.{row_refusal, after_row, judge_rows, cells_in, after_rows, judge_all, judge, destinations, lengths, dues}
 use Rattle.table.specs.Table.{distances, sends_of, last_due}
-use Rattle.table.specs.Steps.{sources}
 use Rattle.slack.specs.Slack.{under_way, place, slack_of, slack, is_late, late_from, late_row, better, pick, slot_of, moved}
 use Rattle.slack.specs.Slack.{state_at, plan_of, delivered_from, arrivals_of, any_under_way, stop_from, stop_of}
 use Rattle.cells.specs.Rows.{per_cell, owners_of, owners, laid_out, cell_links}
@@ -108,7 +107,7 @@ cases =
 -- Every text comes out so.
 pub printed : map (λ (c : Case). output_of c.text) cases ≡ map (λ (c : Case). c.output) cases
 unfolding total largest distance standing
-    row_refusal judge_rows cells_in after_rows judge_all judge sources destinations lengths dues distances last_due
+    row_refusal after_row judge_rows cells_in after_rows judge_all judge destinations lengths dues distances last_due
     under_way place slack_of slack is_late late_from late_row better pick slot_of moved state_at plan_of delivered_from
     arrivals_of any_under_way stop_from stop_of per_cell owners_of owners laid_out cell_links dues_of cell_dues cell_traffic owner_of
     told_by row_plan end_by row_stop of_last_cells row_arrivals

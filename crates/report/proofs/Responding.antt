@@ -1,20 +1,18 @@
 -- From what was read and written to the report.
 --     one_report       two outcomes that fit the promise are equal
---     count_fits, count_taken    the count lies within the area
+--     count_fits       the count lies within the area
 --     output_fits      no output is longer than the area that is lent for it
 -- Assumes nothing.
 use mathlib.Core.Path.{◌≡◌, ◌∙◌, ap, sym}
 use mathlib.Core.List.{List}
 use Prim.Native.Nat.{ℕ, ◌+◌, ◌≤◌}
 use native.Mathlib.Omega.{arith}
-use lib.ListN.{length, take, drop, length-append}
-use lib.Seq.{length-take-le}
+use lib.ListN.{length, drop, length-append}
 use Rattle.table.specs.declared.Row.{Row}
 use Rattle.table.specs.declared.Refusal.{Refusal}
 use Rattle.text.specs.declared.Header.{Header}
-use Rattle.text.specs.declared.Reading.{Reading}
-use Rattle.text.specs.declared.Reading.TheVariants.{Read, Refused as NotRead}
-use Rattle.text.specs.Text.{reading_of, rows_read}
+use Rattle.std.proofs.Common.{Ok, Err}
+use Rattle.text.specs.Text.{Reading, reading_of, rows_read}
 use Rattle.text.specs.Steps.{pasted}
 use Rattle.report.specs.Report.{verdict_lines, table_text, reading_text, output_of, Reported}
 use Rattle.text.specs.Steps.{Put}
@@ -31,17 +29,14 @@ pub count_fits : {text area : List ℕ} {n : ℕ} {area' : List ℕ} → Reporte
 count_fits {text} {area} k =
     omega (arith, k.counts, ap length k.fills, length-append (output_of text) (drop (length (output_of text)) area))
 
-pub count_taken : {text area : List ℕ} {n : ℕ} {area' : List ℕ} → Reported text area n area' → n ≡ length (take n area')
-count_taken {n = n} {area' = area'} k = sym (length-take-le n area' (count_fits k))
-
 -- No output is longer than the area that is lent for it.
 pub output_fits : (text : List ℕ) → length (output_of text) ≤ 212992
 unfolding output_of reading_text
 output_fits text = go (reading_of text 512)
   where
     go : (r : Reading) → length (reading_text r (rows_read text 512)) ≤ 212992
-    go (Read h) = table_most h.nodes (rows_read text 512)
-    go (NotRead r) = omega (arith, verdict_most r)
+    go (Ok h) = table_most h.nodes (rows_read text 512)
+    go (Err r) = omega (arith, verdict_most r)
 
 module _ (text : List ℕ) {area : List ℕ} {next : ℕ} {area' : List ℕ} where
   reported : (bytes : List ℕ) → output_of text ≡ bytes → Put area 0 bytes next area' → Reported text area next area'
@@ -50,13 +45,12 @@ module _ (text : List ℕ) {area : List ℕ} {next : ℕ} {area' : List ℕ} whe
       let none : 0 + length bytes ≡ length bytes = omega arith in
       record { counts = p.place ∙ rw (none, e); fills = p.so ∙ rw (none, e) }
 
-  module _ {reading : Reading} (is : reading ≡ reading_of text 512) where
-    pub not_read : {r : Refusal} → reading ≡ NotRead r → Put area 0 (verdict_lines r) next area'
-        → Reported text area next area'
-    unfolding output_of reading_text
-    not_read {r} e p = reported (verdict_lines r) (rw (sym is ∙ e)) p
+  pub not_read : {r : Refusal} → reading_of text 512 ≡ Err r → Put area 0 (verdict_lines r) next area'
+      → Reported text area next area'
+  unfolding output_of reading_text
+  not_read {r} e p = reported (verdict_lines r) (rw e) p
 
-    pub read : {h : Header} → reading ≡ Read h → {rows : List Row} → rows ≡ rows_read text 512
-        → Put area 0 (table_text h.nodes rows) next area' → Reported text area next area'
-    unfolding output_of reading_text
-    read {h} e {rows} same p = reported (table_text h.nodes rows) (rw (sym is ∙ e, same)) p
+  pub read : {h : Header} {rows : List Row} → (reading_of text 512 ≡ Ok h) × (rows ≡ rows_read text 512)
+      → Put area 0 (table_text h.nodes rows) next area' → Reported text area next area'
+  unfolding output_of reading_text
+  read {h} {rows} e p = reported (table_text h.nodes rows) (rw (e.0, e.1)) p

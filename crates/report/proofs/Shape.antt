@@ -16,7 +16,7 @@ use Rattle.table.specs.declared.Row.{Row}
 use Rattle.table.specs.declared.Refusal.{Refusal}
 use Rattle.table.specs.Table.{refuse, last_due}
 use Rattle.planner.specs.declared.Summary.{Summary}
-use Rattle.planner.specs.declared.Answer.TheVariants.{Accepted}
+use Rattle.std.proofs.Common.{Ok}
 use Rattle.planner.specs.Planner.{the_plan, the_arrivals, the_answer}
 use Rattle.text.specs.Text.{line_feed, numeral, item, line}
 use Rattle.text.proofs.Numeral.{Digits, numeral_digits}
@@ -102,7 +102,7 @@ sends_lines n (suc slots) plan some room =
     omega (arith, join (send_line (take n plan)) (send_lines n slots (drop n plan)), one, rest)
 
 -- An accepted table's output: answer, row, slot, last, an arrive line per row, and a send line per slot of the plan.
-pub accepted_lines : (n : ℕ) (rows : List Row) (s : Summary) → the_answer n rows 32768 512 ≡ Accepted s
+pub accepted_lines : (n : ℕ) (rows : List Row) (s : Summary) → the_answer n rows 32768 512 ≡ Ok s
     → feeds (table_text n rows) ≡ 4 + length rows + last_due rows
 unfolding table_text answer_text accepted_text feeds
 accepted_lines n rows s is =

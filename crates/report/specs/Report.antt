@@ -1,14 +1,10 @@
 -- What the plan program prints, in the words of document 01: key=value lines, each with one line feed behind it.
-use Rattle.std.specs.Prelude.{ℕ, zero, suc, ◌≡◌, List, [], ◌∷◌, ◌++◌, length, take, drop}
+use Rattle.std.specs.Prelude.{ℕ, zero, suc, ◌≡◌, Ok, Err, List, [], ◌∷◌, ◌++◌, length, take, drop}
 use Rattle.table.specs.declared.Row.{Row}
 use Rattle.table.specs.declared.Refusal.{Refusal}
 use Rattle.table.specs.Table.{refuse, last_due}
-use Rattle.planner.specs.declared.Answer.{Answer}
-use Rattle.planner.specs.declared.Answer.TheVariants.{Accepted, Refused}
-use Rattle.planner.specs.Planner.{the_answer, the_plan, the_arrivals}
-use Rattle.text.specs.declared.Reading.{Reading}
-use Rattle.text.specs.declared.Reading.TheVariants.{Read, Refused as NotRead}
-use Rattle.text.specs.Text.{line_feed, item, line, reading_of, rows_read}
+use Rattle.planner.specs.Planner.{Answer, the_answer, the_plan, the_arrivals}
+use Rattle.text.specs.Text.{Reading, line_feed, item, line, reading_of, rows_read}
 
 -- The keys, each with the equals sign behind it: answer=, row=, slot=, last=, arrive=, send=.
 abbrev pub answer_key : List ℕ
@@ -86,8 +82,8 @@ accepted_text last arrivals n slots plan =
 
 -- What is printed for an answer: the three lines alone where it is a refusal.
 unfoldable pub answer_text : Answer → (arrivals : List ℕ) (n slots : ℕ) (plan : List ℕ) → List ℕ
-answer_text (Accepted s) arrivals n slots plan = accepted_text s.last.0 arrivals n slots plan
-answer_text (Refused r) arrivals n slots plan = verdict_lines r
+answer_text (Ok s) arrivals n slots plan = accepted_text s.last.0 arrivals n slots plan
+answer_text (Err r) arrivals n slots plan = verdict_lines r
 
 -- What is printed for a table: the planner's answer, its arrivals and its plan.
 unfoldable pub table_text : (n : ℕ) → List Row → List ℕ
@@ -97,8 +93,8 @@ table_text n rows =
 -- What is printed for a reading and the rows that it gave: a text that was not read gets its three lines, and row is
 -- then the line's number.
 unfoldable pub reading_text : Reading → List Row → List ℕ
-reading_text (Read h) rows = table_text h.nodes rows
-reading_text (NotRead r) rows = verdict_lines r
+reading_text (Ok h) rows = table_text h.nodes rows
+reading_text (Err r) rows = verdict_lines r
 
 -- What the plan program prints for the text that it read.
 unfoldable pub output_of : (text : List ℕ) → List ℕ

@@ -1,10 +1,8 @@
 -- What single steps of the code ask and give. The promise of `respond` speaks of Report.antt alone; nothing here has to
 -- be believed.
-use Rattle.std.specs.Prelude.{ℕ, ◌*◌, ◌≤◌, ◌≡◌, List, length}
+use Rattle.std.specs.Prelude.{ℕ, ◌*◌, ◌/◌, ◌≤◌, ◌≡◌, List, length}
 
--- A plan of so many slots with n entries each, as an accepted table has.
-pub record Slotted (n slots : ℕ) (plan : List ℕ) : Type 0 where
+-- A plan of whole slots with n entries each, as an accepted table has.
+pub record Slotted (n : ℕ) (plan : List ℕ) : Type 0 where
   pub some : 1 ≤ n
-  pub most : n ≤ 32
-  pub soon : slots ≤ 1024
-  pub room : length plan ≡ n * slots
+  pub whole : length plan ≡ n * (length plan / n)

@@ -1,30 +1,27 @@
 // Prints what the plan program answers: it reads a text, plans the table, and writes lines of key=value.
 #![tactic(auto)]
 
-ghost use Rattle.std.specs.Prelude.{◌≡◌, cond, ◌+◌, ◌*◌, ◌≤◌, ◌<◌, ltb, length};
-ghost use Rattle.table.specs.Steps.{listed};
+ghost use Rattle.std.specs.Prelude.{◌≡◌, cond, ◌+◌, ◌/◌, ◌≤◌, ◌<◌, ltb, length};
 ghost use Rattle.text.specs.Text.{line_feed};
-ghost use Rattle.report.specs.Report.{comma, output_most, plan_lent, arrivals_lent, verdict_lines, arrive_lines};
+ghost use Rattle.report.specs.Report.{comma, output_most, verdict_lines, arrive_lines};
 ghost use Rattle.report.specs.Report.{send_line, send_lines, accepted_text, table_text, Reported};
 ghost use Rattle.text.specs.Steps.{Put, Room};
 ghost use Rattle.report.specs.Steps.{Slotted};
 
-use lists::greatest;
-use planner::{Answer, plan_columns};
+use lists::zeros;
+use planner::plan;
 use reader::parse;
-use ring::Slot;
-use table::{Columns, Refusal};
-use text::{Reading, put_item, put_line};
+use table::{Refusal, Row, last_due};
+use text::{put_bytes, put_item, put_line};
 
 // Writes the three lines of a refusal at the front.
 fn put_verdict(area: &mut [u8], refusal: Refusal) -> usize
     requires { Room area.old 0 (verdict_lines refusal) }
     ensures { Put area.old 0 (verdict_lines refusal) result area.new }
 {
-    let slot = refusal.slot;
     let second = put_line(area, 0, b"answer=", refusal.number);
     let third = put_line(area, second, b"row=", refusal.row);
-    put_line(area, third, b"slot=", slot.0)
+    put_line(area, third, b"slot=", refusal.slot.0)
 }
 
 // Writes one arrive line per row.
@@ -33,10 +30,8 @@ fn put_arrives(area: &mut [u8], from: usize, arrivals: &[u16]) -> usize
     ensures { Put area.old from (arrive_lines arrivals.now) result area.new }
 {
     let mut at = from;
-    let mut i = 0;
-    while i < arrivals.len() {
-        at = put_line(area, at, b"arrive=", arrivals[i]);
-        i += 1;
+    for arrival in arrivals {
+        at = put_line(area, at, b"arrive=", *arrival);
     }
     at
 }
@@ -46,103 +41,68 @@ fn mark_behind(i: usize, n: usize) -> u8
     requires { i < n }
     ensures { result ≡ cond (ltb (i + 1) n) comma line_feed }
 {
-    if i + 1 < n { 44 } else { 10 }
+    if i + 1 < n { b',' } else { b'\n' }
 }
 
 // Writes one slot's send line.
 fn put_send(area: &mut [u8], from: usize, entries: &[u16]) -> usize
-    requires { (1 ≤ length entries.now) × Room area.old from (send_line entries.now) }
+    requires { Room area.old from (send_line entries.now) }
     ensures { Put area.old from (send_line entries.now) result area.new }
 {
     let n = entries.len();
-    let mut at = put_item(area, from, b"send=", entries[0], mark_behind(0, n));
-    let mut i = 1;
-    while i < n {
-        at = put_item(area, at, b"", entries[i], mark_behind(i, n));
-        i += 1;
+    let mut at = put_bytes(area, from, b"send=");
+    for (i, entry) in entries.iter().enumerate() {
+        at = put_item(area, at, b"", *entry, mark_behind(i, n));
     }
     at
 }
 
 // Writes one send line per slot of a plan.
-fn put_sends(area: &mut [u8], from: usize, nodes: usize, slots: usize, plan: &[u16]) -> usize
-    requires { Slotted nodes slots plan.now × Room area.old from (send_lines nodes slots plan.now) }
-    ensures { Put area.old from (send_lines nodes slots plan.now) result area.new }
+fn put_sends(area: &mut [u8], from: usize, nodes: usize, plan: &[u16]) -> usize
+    requires { Slotted nodes plan.now
+        × Room area.old from (send_lines nodes (length plan.now / nodes) plan.now) }
+    ensures { Put area.old from (send_lines nodes (length plan.now / nodes) plan.now) result area.new }
 {
     let mut at = from;
-    let mut t = 0;
-    while t < slots {
-        let base = t * nodes;
-        let end = base + nodes;
-        at = put_send(area, at, &plan[base..end]);
-        t += 1;
+    for entries in plan.chunks(nodes) {
+        at = put_send(area, at, entries);
     }
     at
 }
 
 // Writes what is printed for an accepted table.
-fn put_accepted(
-    area: &mut [u8],
-    last: u16,
-    arrivals: &[u16],
-    nodes: usize,
-    slots: usize,
-    plan: &[u16],
-) -> usize
-    requires { Slotted nodes slots plan.now
-        × Room area.old 0 (accepted_text last arrivals.now nodes slots plan.now) }
+fn put_accepted(area: &mut [u8], last: u16, arrivals: &[u16], nodes: usize, plan: &[u16]) -> usize
+    requires { Slotted nodes plan.now
+        × Room area.old 0 (accepted_text last arrivals.now nodes (length plan.now / nodes) plan.now) }
     ensures { Put area.old 0
-        (accepted_text last arrivals.now nodes slots plan.now) result area.new }
+        (accepted_text last arrivals.now nodes (length plan.now / nodes) plan.now) result area.new }
 {
-    let fine = Refusal {
-        number: 0,
-        row: 0,
-        slot: Slot(0),
-    };
-    let second = put_verdict(area, fine);
+    let second = put_verdict(area, Refusal::of_table(0));
     let third = put_line(area, second, b"last=", last);
     let fourth = put_arrives(area, third, arrivals);
-    put_sends(area, fourth, nodes, slots, plan)
-}
-
-// An entry for each link of each slot that a plan may have.
-fn plan_room() -> [u16; 32768]
-    ensures { length result ≡ plan_lent }
-{
-    [0u16; 32768]
-}
-
-// A place for each row that a table may have.
-fn arrivals_room() -> [u16; 512]
-    ensures { length result ≡ arrivals_lent }
-{
-    [0u16; 512]
+    put_sends(area, fourth, nodes, plan)
 }
 
 // Plans a table and writes what is printed for it.
-fn respond_table(nodes: u16, rows: usize, columns: Columns, area: &mut [u8]) -> usize
+fn respond_table(nodes: u16, rows: &[Row], area: &mut [u8]) -> usize
     requires { output_most ≤ length area.old }
-    ensures { Put area.old 0 (table_text nodes (listed rows columns)) result area.new }
+    ensures { Put area.old 0 (table_text nodes rows.now) result area.new }
 {
-    let mut plan = plan_room();
-    let mut arrivals = arrivals_room();
-    let reply = plan_columns(nodes, rows, columns, &mut plan, &mut arrivals);
-    let answer = reply.answer;
-    match answer {
-        Answer::Refused(refusal) => put_verdict(area, refusal),
-        Answer::Accepted(summary) => {
-            let last = summary.last;
-            let due = columns.due;
-            let slots = greatest(&due[..rows]) as usize;
+    let mut schedule: [u16; 32768] = zeros();
+    let mut arrivals: [u16; 512] = zeros();
+    match plan(nodes, rows, &mut schedule, &mut arrivals).answer {
+        Err(refusal) => put_verdict(area, refusal),
+        Ok(summary) => {
+            let count = rows.len();
+            let slots = last_due(rows) as usize;
             let links = nodes as usize;
             let entries = links * slots;
             put_accepted(
                 area,
-                last.0,
-                &arrivals[..rows],
+                summary.last.0,
+                &arrivals[..count],
                 links,
-                slots,
-                &plan[..entries],
+                &schedule[..entries],
             )
         }
     }
@@ -153,11 +113,8 @@ pub fn respond(text: &[u8], area: &mut [u8]) -> usize
     requires { output_most ≤ length area.old }
     ensures { Reported text.now area.old result area.new }
 {
-    let parsed = parse(text, 512);
-    let reading = parsed.reading;
-    let columns = parsed.columns;
-    match reading {
-        Reading::Refused(refusal) => put_verdict(area, refusal),
-        Reading::Read(head) => respond_table(head.nodes, parsed.rows, columns, area),
+    match parse(text, 512) {
+        Err(refusal) => put_verdict(area, refusal),
+        Ok(parsed) => respond_table(parsed.head.nodes, &parsed.rows, area),
     }
 }

@@ -1,74 +1,36 @@
-// A run of rows of several cells: their columns are laid out over the cells, the cells are run, and each row arrives
-// with its last cell.
+// A run of rows of several cells: they are laid out over their cells, the cells are run, and each row arrives with its
+// last cell.
 #![tactic(auto)]
 
 ghost use Rattle.std.specs.Prelude.{◌≡◌, length};
-ghost use Rattle.lists.specs.Lists.{total};
-ghost use Rattle.cells.specs.Rows.{freight};
-ghost use Rattle.rows.specs.Steps.{Loaded, Room, RanRows};
+ghost use Rattle.rows.specs.Steps.{bound_for, Loaded, RanRows};
 
 use cells::{gather_last, lay_out, no_cells};
-use lists::sum;
+use lists::zeros;
 use run::{Ending, run};
-
-// Plans a run of rows, with room for just their cells.
-fn run_in(
-    nodes: u16,
-    dst: &[u16],
-    len: &[u16],
-    due: &[u16],
-    links: &[u16],
-    dsts: &mut [u16],
-    dues: &mut [u16],
-    owner: &mut [u16],
-    left: &mut [u16],
-    stamps: &mut [u16],
-    plan: &mut [u16],
-    arrivals: &mut [u16],
-) -> Ending
-    requires { Loaded (freight nodes dst.now len.now due.now links.now) plan.old arrivals.old
-        × Room (total len.now) dsts.old dues.old owner.old left.old stamps.old }
-    ensures { RanRows (freight nodes dst.now len.now due.now
-        links.now) (length plan.old) result plan.new arrivals.new }
-{
-    lay_out(len, dst, due, links, dsts, dues, owner, left);
-    let ending = run(nodes, dsts, dues, owner, left, plan, stamps);
-    gather_last(len, stamps, arrivals);
-    ending
-}
+use slack::Cargo;
+use table::{Row, count_cells};
 
 // Plans a whole run of rows with at most 1,024 cells in all.
 pub fn run_rows(
     nodes: u16,
-    dst: &[u16],
-    len: &[u16],
-    due: &[u16],
+    rows: &[Row],
     links: &[u16],
     plan: &mut [u16],
     arrivals: &mut [u16],
 ) -> Ending
-    requires { Loaded (freight nodes dst.now len.now due.now links.now) plan.old arrivals.old }
-    ensures { RanRows (freight nodes dst.now len.now due.now
-        links.now) (length plan.old) result plan.new arrivals.new }
+    requires { Loaded nodes rows.now links.now plan.old arrivals.old }
+    ensures { RanRows (bound_for nodes rows.now links.now) (length plan.old) result plan.new arrivals.new }
 {
-    let cells = sum(len) as usize;
-    let mut dsts = no_cells();
-    let mut dues = no_cells();
-    let mut owner = no_cells();
-    let mut left = no_cells();
-    let mut stamps = no_cells();
-    run_in(
-        nodes,
-        dst,
-        len,
-        due,
-        links,
-        &mut dsts[..cells],
-        &mut dues[..cells],
-        &mut owner[..cells],
-        &mut left[..cells],
-        &mut stamps[..cells],
-        plan,
-        arrivals,
-    )
+    let count = count_cells(rows) as usize;
+    let mut cells = no_cells();
+    let mut left: [u16; 1024] = zeros();
+    let mut stamps: [u16; 1024] = zeros();
+    let cells = &mut cells[..count];
+    let left = &mut left[..count];
+    let stamps = &mut stamps[..count];
+    lay_out(rows, links, cells, left);
+    let ending = run(Cargo { nodes, cells }, left, plan, stamps);
+    gather_last(rows, stamps, arrivals);
+    ending
 }

@@ -8,7 +8,7 @@
 -- Assumes nothing.
 use mathlib.Core.Path.{◌≡◌, refl, ◌∙◌, ap, sym}
 use mathlib.Core.Bool.{Bool, true, false, cond}
-use Prim.Native.Nat.{ℕ, zero, suc, ◌+◌, ◌-◌, ◌*◌, ◌≤◌, ◌<◌, ◌^◌}
+use Prim.Native.Nat.{ℕ, zero, suc, ◌+◌, ◌-◌, ◌*◌, ◌≤◌, ◌<◌}
 use native.Mathlib.Omega.{arith}
 use native.Mathlib.Decide.{dec_lt}
 use borrow.Author.Tests.{lt-ltb, le-ltb, ne_eqb, eqb-true, eqb-false}
@@ -204,20 +204,6 @@ front a xs f cleared ys l e c =
     let d : drop (length xs - a) (drop a xs) ≡ [] = drop_of_length-le (drop a xs) {i = length xs - a} (omega arith) in
     rw (t, c, m, d, append-nil)
 
--- With its arrivals cleared a run can be planned as before.
-pub cleared_ready : {T : Traffic} {owner start plan lent arrivals : List ℕ}
-    → Ready T owner start plan lent → arrivals ≡ replicate {A = ℕ} (length lent) 0 → Ready T owner start plan arrivals
-cleared_ready {lent} ready cleared =
-    record {
-      ring = ready.ring;
-      few = ready.few;
-      soon = ready.soon;
-      room = ready.room;
-      rows = ap length cleared ∙ length-replicate (length lent) 0 ∙ ready.rows;
-      owned = ready.owned;
-      named = ready.named;
-    }
-
 -- What there is once the walk over cleared arrivals has been left.
 pub record Over (T : Traffic) (owner start plan₀ : List ℕ) (stop : Stop) (left plan arrivals : List ℕ) : Type 0 where
   pub lent : List ℕ
@@ -244,9 +230,6 @@ module _ {T : Traffic} {owner start plan₀ : List ℕ} {stop : Stop} {left plan
   pub inside : end * T.nodes ≤ length plan
   inside = omega (arith, o.plan_long, o.ready.room, split T.nodes end (last - end) last (omega (arith, in_time)))
 
-  pub inside_lent : end * T.nodes ≤ length plan₀
-  inside_lent = omega (arith, o.plan_long, inside)
-
   cleared_all : o.arrivals₀ ≡ replicate {A = ℕ} (length start) 0
   cleared_all = o.cleared ∙ rw o.ready.rows
 
@@ -256,12 +239,6 @@ module _ {T : Traffic} {owner start plan₀ : List ℕ} {stop : Stop} {left plan
 
   arrivals_each : length arrivals ≡ length start
   arrivals_each = o.arrivals_long ∙ ap length cleared_all ∙ length-replicate (length start) 0
-
-  -- There is a stamp for each cell, and there are not too many of them to count.
-  pub each_cell : (length arrivals ≡ length left) × (length left < 2 ^ 16)
-  each_cell =
-      let same : length left ≡ length start = ap length o.walked.state ∙ state_length T start end in
-      (arrivals_each ∙ sym same, omega (arith, o.ready.few))
 
   -- The looks that are counted from what the walk left are those of the run.
   pub counted : (looks : ℕ) → looks ≡ looks_by end left arrivals → looks ≡ looks_of T start last

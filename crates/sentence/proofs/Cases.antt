@@ -5,13 +5,12 @@ use mathlib.Core.List.{List, [], ◌∷◌}
 use Prim.Native.Nat.{ℕ, ◌+◌}
 use lib.ListN.{length}
 use Rattle.lists.specs.Lists.{first_place}
-use Rattle.table.specs.Table.{refuse}
-use Rattle.text.specs.Text.{width, last_digits, numeral, starts}
-use Rattle.text.specs.declared.Writing.{Writing}
-use Rattle.text.specs.declared.Writing.TheVariants.{Written, Refused as NotWritten}
+use Rattle.table.specs.Table.{refuse, after_row}
+use Rattle.text.specs.Text.{Writing, width, last_digits, numeral, starts}
+use Rattle.std.proofs.Common.{Ok, Err}
 use Rattle.catalogue.specs.Catalogue.{numbers, fields, key_of, keys, text_of, first_line, is_ended, behind_line, string_at}
 use Rattle.catalogue.specs.Catalogue.{string_refusal, line_refusal, lines_verdict, strings_in, same, among, labels_in}
-use Rattle.catalogue.specs.Catalogue.{first_repeat, repeated_line, after_lines, verdict_on, is_in}
+use Rattle.catalogue.specs.Catalogue.{first_repeat, after_lines, verdict_on, is_in}
 use Rattle.catalogue.proofs.Cases.{plain, whole}
 use Rattle.sentence.specs.Sentence.{spoken, sentence, label_of, room_for, after_verdict}
 
@@ -25,7 +24,7 @@ label field lent = after_verdict (verdict_on whole) (is_in field fields) (label_
 
 -- A refusal that names a line, or nothing.
 refused : (number line : ℕ) → Writing
-refused number line = NotWritten (refuse number line 0)
+refused number line = Err (refuse number line 0)
 
 -- J 3 7 for 9, row 3 and slot 7; A 0 0 for acceptance, whatever is given; a row of three digits; L 0 0 for 11, the
 -- twelfth answer; the label of field 2.
@@ -46,9 +45,9 @@ sentences_made = refl
 answers_given :
     answer whole 9 3 7 5 ∷ answer whole 9 3 7 4 ∷ answer whole 18 3 7 0 ∷ answer [] 18 3 7 0
     ∷ label 6 1 ∷ label 6 0 ∷ label 0 9 ∷ label 7 9 ∷ []
-    ≡ Written 5 ∷ refused 22 0 ∷ refused 33 0 ∷ refused 30 1
-    ∷ Written 1 ∷ refused 22 0 ∷ refused 33 0 ∷ refused 33 0 ∷ []
+    ≡ Ok 5 ∷ refused 22 0 ∷ refused 33 0 ∷ refused 30 1
+    ∷ Ok 1 ∷ refused 22 0 ∷ refused 33 0 ∷ refused 33 0 ∷ []
 unfolding key_of keys text_of first_line is_ended behind_line string_at string_refusal line_refusal lines_verdict strings_in same
-    among labels_in first_repeat repeated_line after_lines verdict_on first_place is_in spoken sentence label_of room_for
+    among labels_in first_repeat after_row after_lines verdict_on first_place is_in spoken sentence label_of room_for
     after_verdict width last_digits numeral starts whole plain answer label refused
 answers_given = refl

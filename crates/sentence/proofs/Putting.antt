@@ -5,7 +5,8 @@
 --     in_list, not_in_list                             a number that has a string, and one that has none
 --     is_field, no_field, label_string                 a field, and the string of its line
 --     sentence-spoken                                  the sentence of an answer is its string with row and slot
---     not_a_catalogue, without_string, with_string     the three ways that writing goes
+--     not_a_catalogue                                  a text that is no catalogue
+--     without_string, with_string                      a number without a string, and one that has one
 -- Assumes nothing.
 use mathlib.Core.Path.{◌≡◌, refl, ◌∙◌, ap, sym}
 use mathlib.Core.Bool.{Bool, true, false, cond}
@@ -20,26 +21,24 @@ use Rattle.lists.specs.Lists.{first_place}
 use Rattle.lists.proofs.FirstPlace.{Stands, found_there, place_of}
 use Rattle.table.specs.Table.{refuse}
 use Rattle.table.specs.declared.Refusal.{Refusal}
-use Rattle.table.specs.declared.Verdict.TheVariants.{Good, Refused}
-use Rattle.text.specs.Text.{width, numeral, item}
+use Rattle.std.proofs.Common.{Ok, Err}
+use Rattle.text.specs.Text.{Writing, width, numeral, item}
 use Rattle.text.specs.Steps.{pasted}
-use Rattle.text.specs.declared.Writing.{Writing}
-use Rattle.text.specs.declared.Writing.TheVariants.{Written, Refused as NotWritten}
 use Rattle.text.proofs.Numeral.{numeral-length}
 use Rattle.text.proofs.Pasting.{two_fits, three_fits, three_placed}
 use Rattle.catalogue.specs.Catalogue.{numbers, fields, keys, strings_in, verdict_on, is_in}
 use Rattle.sentence.specs.Sentence.{spoken, sentence, label_of, room_for, after_verdict, area_after, Put}
-use Rattle.sentence.specs.Steps.{Fitted}
+use Rattle.sentence.specs.Steps.{Fitted, Found}
 use Rattle.catalogue.proofs.Keys.{field_at}
 use Rattle.catalogue.proofs.Strings.{label_at}
 
 module _ (bytes area : List ℕ) where
-  pub no_room : {w : Writing} → w ≡ NotWritten (refuse 22 0 0) → length area < length bytes → Fitted bytes area w area
+  pub no_room : {r : Refusal} → r ≡ refuse 22 0 0 → length area < length bytes → Fitted bytes area (Err r) area
   unfolding room_for area_after
-  no_room e h = record { answers = rw (e, lt-ltb (length area) (length bytes) h); fills = rw e }
+  no_room e h = record { answers = rw (e, lt-ltb (length area) (length bytes) h); fills = refl }
 
   pub put_whole : {n : ℕ} {area' : List ℕ} → n ≡ length bytes → length bytes ≤ length area
-      → area' ≡ pasted area 0 bytes → Fitted bytes area (Written n) area'
+      → area' ≡ pasted area 0 bytes → Fitted bytes area (Ok n) area'
   unfolding room_for area_after pasted
   put_whole e h so =
       record {
@@ -76,7 +75,7 @@ module _ (string area : List ℕ) (row slot : ℕ) (fits : length (spoken string
           three_fits area 0 string between (numeral slot) pieces p₁ area₁ one.0 one.1 p₂ area₂ two.0 two.1
 
       pub spoken_put : {n : ℕ} {area₃ : List ℕ} → n ≡ length string + width row + width slot + 2
-          → area₃ ≡ pasted area₂ p₂ (numeral slot) → Fitted (spoken string row slot) area (Written n) area₃
+          → area₃ ≡ pasted area₂ p₂ (numeral slot) → Fitted (spoken string row slot) area (Ok n) area₃
       spoken_put {n} {area₃} e so =
           let here = three_placed area 0 string between (numeral slot) pieces p₁ area₁ one.0 one.1 in
           let put = here p₂ area₂ two.0 two.1 area₃ so ∙ ap (pasted area 0) (spoken_pieces string row slot) in
@@ -126,19 +125,19 @@ module _ (text : List ℕ) where
   unfolding sentence
   sentence-spoken number row slot place e at r s = rw (e, at, r, s)
 
-  -- A text that is no catalogue, a number without a string, and bytes that are written if they fit.
+  -- A text that is no catalogue.
   module _ (found : Bool) (bytes area : List ℕ) where
-    pub not_a_catalogue : {r : Refusal} → verdict_on text ≡ Refused r → Put text found bytes area (NotWritten r) area
+    pub not_a_catalogue : {r : Refusal} → verdict_on text ≡ Err r → Put text found bytes area (Err r) area
     unfolding after_verdict area_after
     not_a_catalogue e = record { answers = rw e; fills = refl }
 
-    pub without_string : {w : Writing} → verdict_on text ≡ Good → found ≡ false → w ≡ NotWritten (refuse 33 0 0)
-        → Put text found bytes area w area
-    unfolding after_verdict area_after
-    without_string good e so = record { answers = rw (good, e) so; fills = rw so }
+-- A number without a string, and bytes that are written if they fit.
+module _ (found : Bool) (bytes area : List ℕ) where
+  pub without_string : {r : Refusal} → found ≡ false → r ≡ refuse 33 0 0 → Found found bytes area (Err r) area
+  unfolding after_verdict area_after
+  without_string e so = record { answers = rw (e, so); fills = refl }
 
-    pub with_string : {bytes₁ area' : List ℕ} {w : Writing} → verdict_on text ≡ Good → found ≡ true → bytes₁ ≡ bytes
-        → Fitted bytes₁ area w area' → Put text found bytes area w area'
-    unfolding after_verdict
-    with_string good e same f =
-        record { answers = rw (good, e, sym same) f.answers; fills = rw (sym same) f.fills }
+  pub with_string : {bytes₁ area' : List ℕ} {w : Writing} → found ≡ true → bytes₁ ≡ bytes
+      → Fitted bytes₁ area w area' → Found found bytes area w area'
+  unfolding after_verdict
+  with_string e same f = record { answers = rw (e, sym same) f.answers; fills = rw (sym same) f.fills }

@@ -16,13 +16,10 @@ use lib.ListN.{length, get_or, take, drop, length-append}
 use lib.Seq.{length-take-le}
 use Rattle.lists.specs.Lists.{first_place}
 use Rattle.lists.proofs.FirstPlace.{found_there}
-use Rattle.table.specs.Table.{refuse}
+use Rattle.table.specs.Table.{Verdict, refuse}
 use Rattle.table.specs.declared.Refusal.{Refusal}
-use Rattle.table.specs.declared.Verdict.{Verdict}
-use Rattle.table.specs.declared.Verdict.TheVariants.{Good, Refused}
-use Rattle.text.specs.Text.{width, last_digits, numeral}
-use Rattle.text.specs.declared.Writing.{Writing}
-use Rattle.text.specs.declared.Writing.TheVariants.{Written, Refused as NotWritten}
+use Rattle.std.proofs.Common.{Ok, Err}
+use Rattle.text.specs.Text.{Writing, width, last_digits, numeral}
 use Rattle.catalogue.specs.Catalogue.{fields, keys, strings_in, labels_in, verdict_on, is_in}
 use Rattle.catalogue.proofs.Strings.{labels_long}
 use Rattle.catalogue.proofs.Accepted.{distinct_labels}
@@ -48,7 +45,7 @@ one_place f g in_f in_g e =
 
 module _ (text : List ℕ) where
   -- Two fields of an accepted catalogue have two labels.
-  pub two_fields_two_labels : verdict_on text ≡ Good → (f g : ℕ) → is_in f fields ≡ true → is_in g fields ≡ true
+  pub two_fields_two_labels : verdict_on text ≡ Ok tt → (f g : ℕ) → is_in f fields ≡ true → is_in g fields ≡ true
       → (f ≡ g → ⊥) → label_of text f ≡ label_of text g → ⊥
   unfolding label_of
   two_fields_two_labels e f g in_f in_g other same = go (ltb (place f) (place g)) refl (ltb (place g) (place f)) refl
@@ -81,30 +78,30 @@ module _ {text : List ℕ} {found : Bool} {bytes area : List ℕ} where
       (same, a.fills ∙ ap (λ (w : Writing). area_after w bytes area) same ∙ sym b.fills)
 
   -- A refused sentence or label leaves the area as it was.
-  pub untouched : {r : Refusal} {area' : List ℕ} → Put text found bytes area (NotWritten r) area' → area' ≡ area
+  pub untouched : {r : Refusal} {area' : List ℕ} → Put text found bytes area (Err r) area' → area' ≡ area
   unfolding area_after
   untouched p = p.fills
 
 -- How many bytes a writing comes to.
 written : Writing → ℕ
-written (Written k) = k
-written (NotWritten r) = 0
+written (Ok k) = k
+written (Err r) = 0
 
 -- It is those that were to be written, or none.
 few_written : (v : Verdict) (found : Bool) (bytes : List ℕ) (lent : ℕ)
     → written (after_verdict v found bytes lent) ≤ length bytes
 unfolding written after_verdict room_for
-few_written (Refused r) found bytes lent = omega arith
-few_written Good false bytes lent = omega arith
-few_written Good true bytes lent = go (ltb lent (length bytes))
+few_written (Err r) found bytes lent = omega arith
+few_written (Ok _) false bytes lent = omega arith
+few_written (Ok _) true bytes lent = go (ltb lent (length bytes))
   where
-    go : (b : Bool) → written (cond b (NotWritten (refuse 22 0 0)) (Written (length bytes))) ≤ length bytes
+    go : (b : Bool) → written (cond b (Err (refuse 22 0 0)) (Ok (length bytes))) ≤ length bytes
     go true = omega arith
     go false = omega arith
 
 -- What is written lies within the area, as a caller needs that lends it on.
 module _ {text : List ℕ} {found : Bool} {bytes area area' : List ℕ} {w : Writing} {k : ℕ}
-    (p : Put text found bytes area w area') (e : w ≡ Written k) where
+    (p : Put text found bytes area w area') (e : w ≡ Ok k) where
   pub written_fits : k ≤ length area'
   unfolding written area_after
   written_fits =

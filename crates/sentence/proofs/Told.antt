@@ -10,10 +10,9 @@ use Prim.Native.Nat.{ℕ}
 use lib.Dec.{ltb}
 use lib.ListN.{length}
 use Rattle.lists.specs.Lists.{first_place}
-use Rattle.table.specs.declared.Verdict.{Verdict}
-use Rattle.table.specs.declared.Verdict.TheVariants.{Good, Refused}
-use Rattle.text.specs.declared.Writing.{Writing}
-use Rattle.text.specs.Text.{number_of_writing}
+use Rattle.std.proofs.Common.{Ok, Err}
+use Rattle.table.specs.Table.{Verdict}
+use Rattle.text.specs.Text.{Writing, number_of_writing}
 use Rattle.catalogue.specs.Catalogue.{verdict_on, is_in}
 use Rattle.catalogue.proofs.Told.{Told, ToldVerdict, either, verdict_told}
 use Rattle.sentence.specs.Sentence.{room_for, after_verdict}
@@ -29,5 +28,5 @@ unfolding after_verdict room_for ToldVerdict ToldWriting is_in first_place
 put_told text found bytes lent = go (verdict_on text) (verdict_told text)
   where
     go : (v : Verdict) → ToldVerdict v → ToldWriting (after_verdict v found bytes lent)
-    go Good t = either ToldWriting found (either ToldWriting (ltb lent (length bytes)) refl refl) refl
-    go (Refused r) t = t
+    go (Ok _) t = either ToldWriting found (either ToldWriting (ltb lent (length bytes)) refl refl) refl
+    go (Err r) t = t

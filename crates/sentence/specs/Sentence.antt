@@ -1,15 +1,11 @@
 -- The sentence of an answer and the label of a field, by a catalogue: document 02, Ask 4.
 use Rattle.std.specs.Prelude.{ℕ, ◌≡◌, Bool, cond, List, [], ◌∷◌, ◌++◌, eqb, ltb, length, get_or, drop}
+use Rattle.std.specs.Prelude.{Ok, Err}
 use Rattle.lists.specs.Lists.{first_place}
-use Rattle.table.specs.Table.{refuse}
+use Rattle.table.specs.Table.{Verdict, refuse}
 use Rattle.table.specs.declared.Refusal.{Refusal}
-use Rattle.table.specs.declared.Verdict.{Verdict}
-use Rattle.table.specs.declared.Verdict.TheVariants.{Good, Refused}
-use Rattle.planner.specs.declared.Answer.{Answer}
-use Rattle.planner.specs.declared.Answer.TheVariants.{Accepted, Refused as Turned}
-use Rattle.text.specs.Text.{numeral}
-use Rattle.text.specs.declared.Writing.{Writing}
-use Rattle.text.specs.declared.Writing.TheVariants.{Written, Refused as NotWritten}
+use Rattle.planner.specs.Planner.{Answer}
+use Rattle.text.specs.Text.{Writing, numeral}
 use Rattle.catalogue.specs.Catalogue.{numbers, fields, keys, strings_in, labels_in, verdict_on, is_in}
 
 -- A string, a space, the row, a space and the slot.
@@ -29,23 +25,23 @@ label_of text field = get_or (labels_in text) (first_place field fields) []
 
 -- What writing some bytes comes to: 22 for room, else their number.
 unfoldable pub room_for : (bytes : List ℕ) (lent : ℕ) → Writing
-room_for bytes lent = cond (ltb lent (length bytes)) (NotWritten (refuse 22 0 0)) (Written (length bytes))
+room_for bytes lent = cond (ltb lent (length bytes)) (Err (refuse 22 0 0)) (Ok (length bytes))
 
 -- What writing bytes of a catalogue comes to: the catalogue's own refusal, then 33 for a number without a string, then
 -- 22 for room, else their number.
 unfoldable pub after_verdict : Verdict → (found : Bool) (bytes : List ℕ) (lent : ℕ) → Writing
-after_verdict (Refused r) found bytes lent = NotWritten r
-after_verdict Good found bytes lent = cond found (room_for bytes lent) (NotWritten (refuse 33 0 0))
+after_verdict (Err r) found bytes lent = Err r
+after_verdict (Ok _) found bytes lent = cond found (room_for bytes lent) (Err (refuse 33 0 0))
 
 -- What an area holds afterwards: the bytes in its front where they were written, and else what it held.
 unfoldable pub area_after : Writing → (bytes area : List ℕ) → List ℕ
-area_after (Written k) bytes area = bytes ++ drop (length bytes) area
-area_after (NotWritten r) bytes area = area
+area_after (Ok k) bytes area = bytes ++ drop (length bytes) area
+area_after (Err r) bytes area = area
 
 -- What an answer of the planner names: nothing where it is an acceptance.
 unfoldable pub named : Answer → Refusal
-named (Accepted s) = refuse 0 0 0
-named (Turned r) = r
+named (Ok s) = refuse 0 0 0
+named (Err r) = r
 
 -- The full outcome of writing bytes of a catalogue: what it comes to, and every byte of the lent area.
 pub record Put (text : List ℕ) (found : Bool) (bytes area : List ℕ) (w : Writing) (area' : List ℕ) : Type 0 where

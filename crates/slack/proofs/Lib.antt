@@ -2,5 +2,5 @@ pub mod Signed
 pub mod Bits
 pub mod Rule
 pub mod Ending
-pub mod Search
 pub mod Figures
+pub mod Cells

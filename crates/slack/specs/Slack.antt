@@ -1,9 +1,11 @@
 -- The rule of least slack, in the words and order of document 01.
 -- A state is one list: the links that each row has still to go, 0 where it is delivered. Rows are counted from 0 here; a plan names row i as i + 1.
-use Rattle.std.specs.Prelude.{ℕ, zero, suc, pred, ◌-◌, ◌≤◌, ◌<◌, ◌≡◌, Bool, false, cond, ◌&&◌, ◌||◌, List, [], ◌∷◌, ◌++◌, eqb, ltb, ℤ, pos, ◌-ℤ◌, length, get_or}
+use Rattle.std.specs.Prelude.{ℕ, zero, suc, pred, ◌-◌, ◌≤◌, ◌<◌, ◌≡◌, Bool, false, cond, ◌&&◌, ◌||◌, List, [], ◌∷◌, ◌++◌, map, eqb, ltb, ℤ, pos, ◌-ℤ◌, length, get_or}
 use Rattle.std.specs.Int.Signed.{lt_z}
 use Rattle.lists.specs.Lists.{build}
 use Rattle.ring.specs.Ring.{standing}
+use Rattle.slack.specs.declared.Cargo.{Cargo}
+use Rattle.slack.specs.declared.Cell.{Cell}
 use Rattle.slack.specs.declared.Stop.{Stop}
 
 -- What stays as it is during a run: the number of nodes, and each row's destination and due slot.
@@ -14,6 +16,24 @@ pub record Traffic : Type 0 where
 
 abbrev pub traffic : ℕ → List ℕ → List ℕ → Traffic
 traffic nodes dst due = record { nodes = nodes; dst = dst; due = due }
+
+-- The destinations, the due slots and the row numbers of a list of cells.
+unfoldable pub dsts_in : List Cell → List ℕ
+dsts_in = map (λ (c : Cell). c.dst.0)
+
+unfoldable pub dues_in : List Cell → List ℕ
+dues_in = map (λ (c : Cell). c.due.0)
+
+unfoldable pub owners_in : List Cell → List ℕ
+owners_in = map (λ (c : Cell). c.row)
+
+-- The traffic of a list of cells.
+abbrev pub traffic_in : ℕ → List Cell → Traffic
+traffic_in nodes cells = traffic nodes (dsts_in cells) (dues_in cells)
+
+-- The traffic of a cargo.
+abbrev pub traffic_of : Cargo → Traffic
+traffic_of cargo = traffic_in cargo.nodes cargo.cells.now
 
 -- A state of that traffic: each row has a destination on the ring, a due slot, and no more links to go than the ring has.
 pub record OnRing (T : Traffic) (left : List ℕ) : Type 0 where

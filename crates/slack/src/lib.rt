@@ -5,9 +5,25 @@ ghost use Rattle.std.specs.Prelude.{◌≡◌, ◌&&◌, ltb, pos};
 ghost use Rattle.std.specs.Int.Signed.{lt_z};
 ghost use Rattle.slack.specs.Slack.{slack_of};
 
-use ring::{Links, Slot};
+use ring::{Links, Node, Slot};
 
-// Where a run ended: the late row's number, 0 where all rows are delivered, and the instant.
+// One cell of a run: where it goes, when it is due there, and the number of its row.
+#[derive(Clone, Copy)]
+pub struct Cell {
+    pub dst: Node,
+    pub due: Slot,
+    pub row: u16,
+}
+
+// The cells of a run, and the number of nodes of their ring.
+#[derive(Clone, Copy)]
+pub struct Cargo<'a> {
+    pub nodes: u16,
+    pub cells: &'a [Cell],
+}
+
+// Where a run ended: the late row's number, 0 where all rows are delivered, and the instant. Rows count from 1, and 0
+// names none in refusals, in plans and in the theorems on `stop_of`.
 #[derive(Clone, Copy)]
 pub struct Stop {
     pub row: u16,

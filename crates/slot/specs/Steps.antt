@@ -5,7 +5,8 @@ use Rattle.std.specs.Int.Signed.{lt_z, mag}
 use Rattle.lists.specs.Lists.{build}
 use Rattle.ring.specs.Ring.{standing}
 use Rattle.slack.specs.Figure.{figures_of}
-use Rattle.slack.specs.Slack.{Traffic, traffic, OnRing, under_way, slot_of, moved}
+use Rattle.slack.specs.declared.Cargo.{Cargo}
+use Rattle.slack.specs.Slack.{Traffic, traffic, dsts_in, OnRing, under_way, slot_of, moved}
 
 -- What a slot is chosen from: the number of nodes, and each row's destination, links to go and figure.
 pub record Board : Type 0 where
@@ -16,6 +17,10 @@ pub record Board : Type 0 where
 
 abbrev pub board : ℕ → List ℕ → List ℕ → List ℤ → Board
 board nodes dst left figure = record { nodes = nodes; dst = dst; left = left; figure = figure }
+
+-- What a slot of a cargo is chosen from.
+abbrev pub board_of : Cargo → (left : List ℕ) → (figure : List ℤ) → Board
+board_of cargo left figure = board cargo.nodes (dsts_in cargo.cells.now) left figure
 
 -- The node at which row i stands.
 unfoldable pub stands_at : Board → ℕ → ℕ

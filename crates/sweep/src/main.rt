@@ -1,14 +1,14 @@
 // Runs document 01's sweep table and some edits through the entry points, and prints what comes back.
 #![tactic(auto)]
 
-ghost use Rattle.std.specs.Prelude.{◌≡◌, ℕ, ◌≤◌, ◌<◌, length, take, replicate};
-ghost use Rattle.planner.specs.Planner.{Planned};
+ghost use Rattle.std.specs.Prelude.{◌≡◌, ℕ, ◌≤◌, length, replicate};
 
-use area::{Area, ROOM};
-use planner::{Answer, Reply, Summary, plan, plan_columns};
+use area::{Area, list_rows};
+use lists::zeros;
+use planner::{Reply, Summary, plan};
 use ring::Node;
 use std::io;
-use table::{Row, Verdict};
+use table::{Refusal, Row};
 
 // What the areas hold before a case, so that the entries that it touched can be told: no row's number and no instant is
 // as large.
@@ -24,75 +24,25 @@ fn row(src: u16, dst: u16, due: u16) -> Row {
     }
 }
 
-// Three rows of one kind.
-fn thrice(r: Row) -> [Row; 3] {
-    [r, r, r]
-}
-
-// Two rows, and a place that is not used.
-fn two(a: Row, b: Row) -> [Row; 3] {
-    [a, b, b]
-}
-
-// A plan area with room for the longest plan of the sweep and two entries more.
-fn plan_area() -> [u16; 2050]
-    ensures { result ≡ replicate {A = ℕ} 2050 65535 }
+// An area of N entries that nobody has touched yet.
+fn untouched<const N: usize>() -> [u16; N]
+    ensures { result ≡ replicate {A = ℕ} N 65535 }
 {
-    [UNTOUCHED; 2050]
-}
-
-// An arrivals area with room for three rows and one entry more.
-fn arrivals_area() -> [u16; 4]
-    ensures { result ≡ replicate {A = ℕ} 4 65535 }
-{
-    [UNTOUCHED; 4]
-}
-
-// Plans the first `count` of three rows, which are lent to the planner as a list.
-fn plan_three(
-    nodes: u16,
-    rows: [Row; 3],
-    count: usize,
-    area: &mut [u16],
-    arrivals: &mut [u16],
-) -> Reply
-    requires { count ≤ 3 }
-    ensures { Planned nodes (take count rows) area.old arrivals.old result area.new
-        arrivals.new }
-{
-    plan(nodes, &rows[..count], area, arrivals)
+    [UNTOUCHED; N]
 }
 
 // How many entries at the front of an area a case touched.
 fn touched(area: &[u16]) -> usize
     ensures { result ≤ length area.now }
 {
-    let mut i = 0;
-    while i < area.len() {
-        if area[i] == UNTOUCHED {
-            return i;
-        }
-        i += 1;
-    }
-    i
-}
-
-// 1 for an entry that names a row, and 0 for an idle one.
-fn named(entry: u16) -> usize
-    ensures { result ≤ 1 }
-{
-    if entry == 0 { 0 } else { 1 }
+    area.iter()
+        .position(|entry| *entry == UNTOUCHED)
+        .unwrap_or(area.len())
 }
 
 // How many entries of a plan name a row.
 fn busy(plan: &[u16]) -> usize {
-    let mut busy = 0;
-    let mut i = 0;
-    while i < plan.len() {
-        busy += named(plan[i]);
-        i += 1;
-    }
-    busy
+    plan.iter().filter(|row| **row != 0).count()
 }
 
 // Writes one line, a key and a number.
@@ -133,17 +83,10 @@ fn print_summary(rt: &impl Print, s: Summary) -> io::Result<()> {
     print_bits(rt, b"share_bits", s.share)
 }
 
-// A number of 16 bits as one of 64.
-fn wide(x: u16) -> u64 {
-    x as u64
-}
-
 // Writes one line for each row's delivery instant.
 fn print_arrivals(rt: &impl Print, arrivals: &[u16]) -> io::Result<()> {
-    let mut i = 0;
-    while i < arrivals.len() {
-        print_line(rt, b"arrive", wide(arrivals[i]))?;
-        i += 1;
+    for instant in arrivals {
+        print_line(rt, b"arrive", u64::from(*instant))?;
     }
     Ok(())
 }
@@ -160,31 +103,22 @@ fn print_entry(rt: &impl Print, link: usize, row: u16) -> io::Result<()> {
 
 // Writes one line with what the links carry in a slot.
 fn print_slot(rt: &impl Print, slot: &[u16]) -> io::Result<()> {
-    let mut link = 0;
-    while link < slot.len() {
-        print_entry(rt, link, slot[link])?;
-        link += 1;
+    for (link, row) in slot.iter().enumerate() {
+        print_entry(rt, link, *row)?;
     }
     rt.write_all(b"\n")
 }
 
 // Writes one line for each slot of a plan.
-fn print_slots(rt: &impl Print, nodes: usize, plan: &[u16]) -> io::Result<()>
-    requires { 0 < nodes }
-{
-    let mut at = 0;
-    while nodes <= plan.len() - at {
-        let next = at + nodes;
-        print_slot(rt, &plan[at..next])?;
-        at = next;
+fn print_slots(rt: &impl Print, nodes: usize, plan: &[u16]) -> io::Result<()> {
+    for slot in plan.chunks_exact(nodes.max(1)) {
+        print_slot(rt, slot)?;
     }
     Ok(())
 }
 
 // Writes the slots of a plan: all of a short one, the first and the last of a long one.
-fn print_plan(rt: &impl Print, nodes: usize, plan: &[u16]) -> io::Result<()>
-    requires { 0 < nodes }
-{
+fn print_plan(rt: &impl Print, nodes: usize, plan: &[u16]) -> io::Result<()> {
     let entries = plan.len();
     if entries <= 32 {
         print_slots(rt, nodes, plan)?;
@@ -204,17 +138,14 @@ fn print_outcome(
     reply: Reply,
     plan: &[u16],
     arrivals: &[u16],
-) -> io::Result<()>
-    requires { 0 < nodes }
-{
+) -> io::Result<()> {
     print_line(rt, b"looks", reply.looks as u64)?;
-    let answer = reply.answer;
-    match answer {
-        Answer::Refused(r) => {
+    match reply.answer {
+        Err(r) => {
             print_answer(rt, r.number, r.row, r.slot.0)?;
             print_touched(rt, plan, arrivals)
         }
-        Answer::Accepted(s) => {
+        Ok(s) => {
             print_answer(rt, 0, 0, 0)?;
             print_touched(rt, plan, arrivals)?;
             print_summary(rt, s)?;
@@ -232,82 +163,70 @@ fn print_areas(
     reply: Reply,
     plan: &[u16],
     arrivals: &[u16],
-) -> io::Result<()>
-    requires { 0 < nodes }
-{
+) -> io::Result<()> {
     let entries = touched(plan);
     let instants = touched(arrivals);
     print_outcome(rt, nodes, reply, &plan[..entries], &arrivals[..instants])
 }
 
 // Plans one case in fresh areas and writes what it came to.
-fn run_case(
-    rt: &impl Print,
-    letter: &[u8],
-    nodes: u16,
-    rows: [Row; 3],
-    count: usize,
-) -> io::Result<()>
-    requires { (0 < nodes) × (count ≤ 3) }
-{
-    let mut plan = plan_area();
-    let mut arrivals = arrivals_area();
-    let reply = plan_three(nodes, rows, count, &mut plan, &mut arrivals);
+fn run_case(rt: &impl Print, letter: &[u8], nodes: u16, rows: &[Row]) -> io::Result<()> {
+    let mut entries: [u16; 2050] = untouched(); // the longest plan of the sweep, and two entries more
+    let mut arrivals: [u16; 4] = untouched(); // three rows, and one entry more
+    let reply = plan(nodes, rows, &mut entries, &mut arrivals);
     rt.write_all(b"case=")?;
     rt.write_all(letter)?;
     rt.write_all(b"\n")?;
-    print_areas(rt, nodes as usize, reply, &plan, &arrivals)
+    print_areas(rt, nodes as usize, reply, &entries, &arrivals)
 }
 
 // The cases of document 01's sweep table that are accepted or late.
 fn run_rule_cases(rt: &impl Print) -> io::Result<()> {
-    run_case(rt, b"A", 4, two(row(0, 2, 3), row(0, 1, 2)), 2)?;
-    run_case(rt, b"B", 4, two(row(0, 1, 2), row(0, 3, 3)), 2)?;
-    run_case(rt, b"C", 4, two(row(2, 0, 2), row(2, 3, 2)), 2)?;
-    run_case(rt, b"D", 4, thrice(row(0, 1, 1)), 2)?;
-    run_case(rt, b"E", 4, thrice(row(0, 2, 1)), 1)?;
-    run_case(rt, b"F", 2, thrice(row(1, 0, 3)), 3)?;
-    run_case(rt, b"G", 2, thrice(row(1, 0, 2)), 3)
+    run_case(rt, b"A", 4, &[row(0, 2, 3), row(0, 1, 2)])?;
+    run_case(rt, b"B", 4, &[row(0, 1, 2), row(0, 3, 3)])?;
+    run_case(rt, b"C", 4, &[row(2, 0, 2), row(2, 3, 2)])?;
+    run_case(rt, b"D", 4, &[row(0, 1, 1); 2])?;
+    run_case(rt, b"E", 4, &[row(0, 2, 1)])?;
+    run_case(rt, b"F", 2, &[row(1, 0, 3); 3])?;
+    run_case(rt, b"G", 2, &[row(1, 0, 2); 3])
 }
 
 // The cases at the edges: no rows, a bad row, the latest due slot, and too many nodes.
 fn run_edge_cases(rt: &impl Print) -> io::Result<()> {
-    run_case(rt, b"H", 4, thrice(row(0, 1, 1)), 0)?;
-    run_case(rt, b"J", 4, thrice(row(0, 0, 1025)), 1)?;
-    run_case(rt, b"K", 2, thrice(row(0, 1, 1025)), 1)?;
-    run_case(rt, b"K", 2, thrice(row(0, 1, 1024)), 1)?;
-    run_case(rt, b"L", 33, thrice(row(40, 40, 0)), 1)
-}
-
-// An area for editing that nobody has opened yet.
-fn table_area() -> Area {
-    [0; ROOM]
+    run_case(rt, b"H", 4, &[])?;
+    run_case(rt, b"J", 4, &[row(0, 0, 1025)])?;
+    run_case(rt, b"K", 2, &[row(0, 1, 1025)])?;
+    run_case(rt, b"K", 2, &[row(0, 1, 1024)])?;
+    run_case(rt, b"L", 33, &[row(40, 40, 0)])
 }
 
 // Writes the loads of the first four links of a table that is edited.
 fn print_loads(rt: &impl Print, table: &Area) -> io::Result<()> {
-    let mut p = 0;
-    while p < 4 {
-        print_line(rt, b"load", wide(area::link_load(table, Node(p))))?;
-        p += 1;
+    for p in 0..4 {
+        print_line(rt, b"load", u64::from(area::link_load(table, Node(p))))?;
     }
     Ok(())
 }
 
 // Writes what an edit came to, and the rows, loads and busiest link that the table then has.
-fn print_edit(rt: &impl Print, name: &[u8], verdict: Verdict, table: &Area) -> io::Result<()> {
+fn print_edit(
+    rt: &impl Print,
+    name: &[u8],
+    verdict: Result<(), Refusal>,
+    table: &Area,
+) -> io::Result<()> {
     rt.write_all(b"edit=")?;
     rt.write_all(name)?;
     rt.write_all(b"\n")?;
     match verdict {
-        Verdict::Good => print_answer(rt, 0, 0, 0)?,
-        Verdict::Refused(r) => print_answer(rt, r.number, r.row, r.slot.0)?,
+        Ok(()) => print_answer(rt, 0, 0, 0)?,
+        Err(r) => print_answer(rt, r.number, r.row, r.slot.0)?,
     }
-    print_line(rt, b"rows", wide(area::row_count(table)))?;
+    print_line(rt, b"rows", u64::from(area::row_count(table)))?;
     print_loads(rt, table)?;
     let busiest = area::busiest(table);
-    print_line(rt, b"busiest", wide(busiest.link.0))?;
-    print_line(rt, b"most", wide(busiest.load))
+    print_line(rt, b"busiest", u64::from(busiest.link.0))?;
+    print_line(rt, b"most", u64::from(busiest.load))
 }
 
 // Opens a table in the lent area and adds rows, one past node 0; a bad one is refused under its coming number.
@@ -330,17 +249,16 @@ fn run_changing(rt: &impl Print, table: &mut Area) -> io::Result<()> {
 
 // Plans the table that was edited.
 fn run_edited(rt: &impl Print, table: &Area) -> io::Result<()> {
-    let mut plan = plan_area();
-    let mut arrivals = arrivals_area();
-    let rows = area::row_count(table) as usize;
-    let columns = area::columns_of(table);
-    let reply = plan_columns(table[0], rows, columns, &mut plan, &mut arrivals);
-    print_areas(rt, 4, reply, &plan, &arrivals)
+    let mut entries: [u16; 2050] = untouched(); // the longest plan of the sweep, and two entries more
+    let mut arrivals: [u16; 4] = untouched(); // three rows, and one entry more
+    let rows = list_rows(table);
+    let reply = plan(table[0], rows.as_slice(), &mut entries, &mut arrivals);
+    print_areas(rt, 4, reply, &entries, &arrivals)
 }
 
 // Edits a table, and plans it.
 fn run_editing(rt: &impl Print) -> io::Result<()> {
-    let mut table = table_area();
+    let mut table: Area = zeros();
     run_adding(rt, &mut table)?;
     run_changing(rt, &mut table)?;
     run_edited(rt, &table)

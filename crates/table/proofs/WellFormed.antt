@@ -9,8 +9,8 @@ use mathlib.Core.List.{List, [], ◌∷◌}
 use borrow.Author.Tests.{lt-leb, ne_eqb, le-ltb}
 use lib.ListN.{length, get_or}
 use Rattle.table.specs.declared.Row.{Row}
-use Rattle.table.specs.declared.Verdict.TheVariants.{Good}
-use Rattle.table.specs.Table.{WellFormed, row_refusal, judge_rows, cells_in, most_cells, most_length, latest_due}
+use Rattle.std.specs.Prelude.{Ok}
+use Rattle.table.specs.Table.{WellFormed, row_refusal, judge_rows, after_row, cells_in, most_cells, most_length, latest_due}
 use Rattle.table.specs.Steps.{none}
 use Rattle.table.proofs.Judging.{GoodRow, good_rows, all_few}
 use Rattle.table.proofs.Whole.{sound, judge_each}
@@ -25,7 +25,7 @@ pub record Conditions (n : ℕ) (rows : List Row) : Type 0 where
   pub each_row : (i : ℕ) → i < length rows → GoodRow n (get_or rows i none)
 
 -- Nothing is wrong with a row of which the conditions hold.
-nothing_wrong : (n : ℕ) (r : Row) → GoodRow n r → row_refusal n r ≡ 0
+nothing_wrong : (n : ℕ) (r : Row) → GoodRow n r → row_refusal n r ≡ Ok tt
 unfolding row_refusal
 nothing_wrong n r good =
     rw (
@@ -38,8 +38,8 @@ nothing_wrong n r good =
     )
 
 all_let_through : (n : ℕ) (rows : List Row) (above : ℕ) → ((i : ℕ) → i < length rows → GoodRow n (get_or rows i none))
-    → judge_rows n rows above ≡ Good
-unfolding judge_rows
+    → judge_rows n rows above ≡ Ok tt
+unfolding judge_rows after_row
 all_let_through n [] above good = refl
 all_let_through n (r ∷ rows) above good =
     rw (nothing_wrong n r (good 0 (omega arith)))

@@ -1,11 +1,10 @@
 -- The table of document 01, and what is wrong with one.
 use Rattle.std.specs.Prelude.{ℕ, suc, ◌*◌, ◌≡◌, cond, ◌||◌, List, [], ◌∷◌, map, eqb, ltb, leb, length}
+use Rattle.std.specs.Prelude.{Result, Ok, Err}
 use Rattle.lists.specs.Lists.{largest, total}
 use Rattle.ring.specs.Ring.{distance}
 use Rattle.table.specs.declared.Row.{Row}
 use Rattle.table.specs.declared.Refusal.{Refusal}
-use Rattle.table.specs.declared.Verdict.{Verdict}
-use Rattle.table.specs.declared.Verdict.TheVariants.{Good, Refused}
 
 -- The most rows that a table may have.
 abbrev pub most_rows : ℕ
@@ -35,20 +34,28 @@ row_by f = record { src = f 0; dst = f 1; len = f 2; due = f 3 }
 abbrev pub refuse : (number row slot : ℕ) → Refusal
 refuse number row slot = record { number = number; row = row; slot = record { 0 = slot } }
 
--- What is wrong with one row of a table for n nodes: 3, 4, 10 or 6, in this order, and 0 where nothing is. A row may
--- go once round to its own node.
-unfoldable pub row_refusal : ℕ → Row → ℕ
+-- What judging comes to: that nothing is wrong, or a refusal.
+abbrev pub Verdict : Type 0
+Verdict = Result Unit Refusal
+
+-- What is wrong with one row of a table for n nodes, by the number of its refusal: 3, 4, 10 or 6, in this order. A row
+-- may go once round to its own node.
+unfoldable pub row_refusal : ℕ → Row → Result Unit ℕ
 row_refusal n r =
-    cond (leb n r.src) 3
-    (cond (leb n r.dst) 4
-    (cond (eqb r.len 0 || ltb most_length r.len) 10
-    (cond (eqb r.due 0 || ltb latest_due r.due) 6 0)))
+    cond (leb n r.src) (Err 3)
+    (cond (leb n r.dst) (Err 4)
+    (cond (eqb r.len 0 || ltb most_length r.len) (Err 10)
+    (cond (eqb r.due 0 || ltb latest_due r.due) (Err 6) (Ok tt))))
+
+-- What follows once a row is judged: it is refused under its number, or the rest decides.
+unfoldable pub after_row : Result Unit ℕ → (row : ℕ) → (rest : Verdict) → Verdict
+after_row (Err number) row rest = Err (refuse number row 0)
+after_row (Ok _) row rest = rest
 
 -- The refusal of the first bad row, where `above` rows stand above the list.
 unfoldable pub judge_rows : ℕ → List Row → ℕ → Verdict
-judge_rows n [] above = Good
-judge_rows n (r ∷ rs) above =
-    cond (eqb (row_refusal n r) 0) (judge_rows n rs (suc above)) (Refused (refuse (row_refusal n r) (suc above) 0))
+judge_rows n [] above = Ok tt
+judge_rows n (r ∷ rs) above = after_row (row_refusal n r) (suc above) (judge_rows n rs (suc above))
 
 -- The lengths of a list of rows, and how many cells these rows have in all.
 unfoldable pub lengths : List Row → List ℕ
@@ -59,8 +66,8 @@ cells_in rows = total (lengths rows)
 
 -- What follows once the rows are judged: a bad row is the verdict, and else 11 for too many cells.
 unfoldable pub after_rows : Verdict → (cells : ℕ) → Verdict
-after_rows (Refused r) cells = Refused r
-after_rows Good cells = cond (ltb most_cells cells) (Refused (refuse 11 0 0)) Good
+after_rows (Err r) cells = Err r
+after_rows (Ok _) cells = cond (ltb most_cells cells) (Err (refuse 11 0 0)) (Ok tt)
 
 -- The rows in order, and then their cells.
 unfoldable pub judge_all : ℕ → List Row → Verdict
@@ -70,12 +77,12 @@ judge_all n rows = after_rows (judge_rows n rows 0) (cells_in rows)
 -- many cells.
 unfoldable pub judge : ℕ → List Row → Verdict
 judge n rows =
-    cond (ltb n 2 || ltb 32 n) (Refused (refuse 1 0 0))
-    (cond (ltb most_rows (length rows)) (Refused (refuse 2 0 0)) (judge_all n rows))
+    cond (ltb n 2 || ltb 32 n) (Err (refuse 1 0 0))
+    (cond (ltb most_rows (length rows)) (Err (refuse 2 0 0)) (judge_all n rows))
 
 -- None of these refusals holds.
 abbrev pub WellFormed : ℕ → List Row → Type 0
-WellFormed n rows = judge n rows ≡ Good
+WellFormed n rows = judge n rows ≡ Ok tt
 
 -- The destinations and due slots of a list of rows.
 unfoldable pub destinations : List Row → List ℕ

@@ -6,8 +6,7 @@ use Prim.Native.Nat.{ℕ}
 use lib.ListN.{replicate}
 use Rattle.table.specs.Table.{refuse}
 use Rattle.table.specs.declared.Row.{Row}
-use Rattle.text.specs.declared.Reading.TheVariants.{Read, Refused}
-use Rattle.text.specs.declared.Writing.TheVariants.{Written, Refused as NotWritten}
+use Rattle.std.specs.Prelude.{Ok, Err}
 use Rattle.text.specs.Text.{width, last_digits, numeral, line, row_keys, lines_text, row_text, rows_text, text_of}
 use Rattle.text.specs.Text.{starts, digits_at, extended, item_value, item_good, item_rest, values_at, behind_lines}
 use Rattle.text.specs.Text.{wrong_line, rows_keys, row_at, rows_at, nodes_in, rows_in, body_of, reading_of_rows}
@@ -34,7 +33,7 @@ pub case_b_written : text_of 4 case_b ≡ case_b_text
 unfolding width last_digits numeral line row_keys lines_text row_text rows_text text_of
 case_b_written = refl
 
-pub case_b_read : reading_of case_b_text 2 ≡ Read (record { nodes = 4; rows = 2 })
+pub case_b_read : reading_of case_b_text 2 ≡ Ok (record { nodes = 4; rows = 2 })
 unfolding width last_digits numeral line starts digits_at extended item_value item_good item_rest row_keys values_at
     behind_lines wrong_line rows_keys row_at rows_at nodes_in rows_in body_of reading_of_rows reading_of_body reading_of
 case_b_read = refl
@@ -45,11 +44,11 @@ unfolding width last_digits numeral line starts digits_at extended item_value it
 case_b_rows = refl
 
 -- Its text has 63 bytes: an area of 62 is too short, one of 63 will do, and of one of 65 two bytes are left alone.
-pub case_b_too_long : writing_of 4 case_b 62 ≡ NotWritten (refuse 22 0 0)
+pub case_b_too_long : writing_of 4 case_b 62 ≡ Err (refuse 22 0 0)
 unfolding width last_digits numeral line row_keys lines_text row_text rows_text text_of writing_of
 case_b_too_long = refl
 
-pub case_b_fits : writing_of 4 case_b 63 ≡ Written 63
+pub case_b_fits : writing_of 4 case_b 63 ≡ Ok 63
 unfolding width last_digits numeral line row_keys lines_text row_text rows_text text_of writing_of
 case_b_fits = refl
 
@@ -59,14 +58,14 @@ case_b_in_area = refl
 
 -- A text of no rows has no lengths to miss.
 pub no_rows_read : reading_of (110 ∷ 111 ∷ 100 ∷ 101 ∷ 115 ∷ 61 ∷ 52 ∷ 10 ∷ 114 ∷ 111 ∷ 119 ∷ 115 ∷ 61 ∷ 48 ∷ 10 ∷ []) 2
-    ≡ Read (record { nodes = 4; rows = 0 })
+    ≡ Ok (record { nodes = 4; rows = 0 })
 unfolding width last_digits numeral line starts digits_at extended item_value item_good item_rest row_keys values_at
     behind_lines wrong_line rows_keys row_at rows_at nodes_in rows_in body_of reading_of_rows reading_of_body reading_of
 no_rows_read = refl
 
 -- A table of 513 rows is not written, however long the area is.
 pub too_many_rows : writing_of 4 (replicate {A = Row} 513 (record { src = 0; dst = 1; len = 1; due = 2 })) 30000
-    ≡ NotWritten (refuse 2 0 0)
+    ≡ Err (refuse 2 0 0)
 unfolding width last_digits numeral line row_keys lines_text row_text rows_text text_of writing_of
 too_many_rows = refl
 
@@ -238,7 +237,7 @@ wrong_texts =
     []
 
 pub wrong_texts_refused : map (λ (w : Wrong). reading_of w.text 2) wrong_texts ≡ map
-    (λ (w : Wrong). Refused (refuse w.number w.place 0)) wrong_texts
+    (λ (w : Wrong). Err (refuse w.number w.place 0)) wrong_texts
 unfolding width last_digits numeral line starts digits_at extended item_value item_good item_rest row_keys values_at
     behind_lines wrong_line rows_keys row_at rows_at nodes_in rows_in body_of reading_of_rows reading_of_body reading_of
 wrong_texts_refused = refl

@@ -17,10 +17,9 @@ use lib.ListN.{length, get_or, take}
 use Rattle.table.specs.Table.{refuse}
 use Rattle.table.specs.declared.Refusal.{Refusal}
 use Rattle.text.specs.declared.Header.{Header}
-use Rattle.text.specs.declared.Reading.TheVariants.{Read, Refused}
+use Rattle.std.specs.Prelude.{Ok, Err}
 use Rattle.text.specs.Text.{nodes_key, rows_key, line_good, line_rest, behind_lines, wrong_line, rows_keys, nodes_in}
-use Rattle.text.specs.Text.{rows_in, body_of, reading_of_rows, reading_of_body, reading_of, number_of_reading}
-use Rattle.text.specs.Text.{line_of_reading}
+use Rattle.text.specs.Text.{rows_in, body_of, reading_of_rows, reading_of_body, Reading, reading_of}
 
 -- The keys of all lines of a text with so many rows: nodes, rows, then those of each row.
 abbrev pub keys_of : (rows : ℕ) → List (List ℕ)
@@ -90,16 +89,20 @@ first_of (k ∷ ks) text l w e some = go (line_good k text) refl e (λ f. first_
     go true s v rec = further k ks text l w s (rec v)
     go false s v rec = here_wrong k ks text l w v s
 
-other_number : (a b r s : ℕ) → (a ≡ b → ⊥) → Refused (refuse a r 0) ≡ Refused (refuse b s 0) → ⊥
-other_number a b r s d e = d (ap number_of_reading e)
+-- the refusal that a reading is, or that of an accepted one
+refusal_in : Reading → Refusal
+refusal_in (Ok h) = refuse 0 0 0
+refusal_in (Err r) = r
 
-never_read : (h : Header) (r : Refusal) → Read h ≡ Refused r → ⊥
-never_read h r e = let z : ◌≡◌ {A = ℕ} 0 1 = cc in omega arith
+other_number : (a b r s : ℕ) → (a ≡ b → ⊥) → ◌≡◌ {A = Reading} (Err (refuse a r 0)) (Err (refuse b s 0)) → ⊥
+unfolding refusal_in
+other_number a b r s d e = d (ap (λ (x : Reading). (refusal_in x).number) e)
 
-same_line : (a b : ℕ) → Refused (refuse 20 a 0) ≡ Refused (refuse 20 b 0) → b ≡ a
-same_line a b e = sym (ap line_of_reading e)
+same_line : (a b : ℕ) → ◌≡◌ {A = Reading} (Err (refuse 20 a 0)) (Err (refuse 20 b 0)) → b ≡ a
+unfolding refusal_in
+same_line a b e = sym (ap (λ (x : Reading). (refusal_in x).row) e)
 
-pub first_wrong : (text : List ℕ) (lent w : ℕ) → reading_of text lent ≡ Refused (refuse 20 w 0)
+pub first_wrong : (text : List ℕ) (lent w : ℕ) → reading_of text lent ≡ Err (refuse 20 w 0)
     → FirstWrong text (rows_in text) w
 unfolding reading_of reading_of_body reading_of_rows body_of
 first_wrong text lent w e =
@@ -117,9 +120,9 @@ first_wrong text lent w e =
 
     go : (a b c d f : Bool) → line_good nodes_key text ≡ a → line_good rows_key (line_rest nodes_key text) ≡ b
         → eqb wrong 0 ≡ f
-        → cond a (cond b (cond c (Refused (refuse 2 0 0)) (cond d (Refused (refuse 21 0 0))
-        (cond f (Read found) (Refused (refuse 20 wrong 0))))) (Refused (refuse 20 2 0)))
-        (Refused (refuse 20 1 0)) ≡ Refused (refuse 20 w 0)
+        → cond a (cond b (cond c (Err (refuse 2 0 0)) (cond d (Err (refuse 21 0 0))
+        (cond f (Ok found) (Err (refuse 20 wrong 0))))) (Err (refuse 20 2 0)))
+        (Err (refuse 20 1 0)) ≡ Err (refuse 20 w 0)
         → FirstWrong text (rows_in text) w
     go false b c d f p q t e = here_wrong nodes_key (rows_key ∷ after) text 1 w (same_line 1 w e) p
     go true false c d f p q t e =
@@ -127,7 +130,7 @@ first_wrong text lent w e =
         further nodes_key (rows_key ∷ after) text 1 w p second
     go true true true d f p q t e = absurd (other_number 2 20 0 w (λ z. omega arith) e)
     go true true false true f p q t e = absurd (other_number 21 20 0 w (λ z. omega arith) e)
-    go true true false false true p q t e = absurd (never_read found (refuse 20 w 0) e)
+    go true true false false true p q t e = absurd cc
     go true true false false false p q t e =
         let is : w ≡ wrong = same_line wrong w e in
         let some : (w ≡ 0 → ⊥) = λ z. eqb-false wrong 0 t (sym is ∙ z) in

@@ -1,9 +1,9 @@
 -- Bytes written into an area, and the digits of a numeral.
---     tenth_more, tenth_done, numeral_byte     the digits of a number one by one
+--     tenth_suc, numeral_byte     the digits of a number one by one
 --     put_more, put_all, byte_placed           bytes written one by one, and one byte alone
 --     pasted_none, pasted_length, pasted_more  nothing written, and a piece behind another
---     two_fits, three_fits, three_placed, three_long   three pieces written one behind the other
---     key_fits, numeral_fits, mark_fits, item_long, item_placed   the three pieces of a number behind a key
+--     two_fits, three_fits, three_placed   three pieces written one behind the other
+--     mark_fits, item_placed   the three pieces of a number behind a key
 -- Assumes nothing.
 use mathlib.Core.Path.{◌≡◌, refl, ◌∙◌, ap, sym}
 use mathlib.Core.List.{List, [], ◌∷◌, ◌++◌, append_assoc, append-nil}
@@ -20,14 +20,10 @@ use Rattle.text.specs.Text.{width, last_digits, numeral, item}
 use Rattle.text.specs.Steps.{tenth, pasted}
 use Rattle.text.proofs.Numeral.{last_length}
 
-pub tenth_more : (place i v rest : ℕ) → i < place → tenth place v ≡ tenth (place - i) rest
-    → tenth place v ≡ tenth (place - (i + 1)) (rest / 10)
+pub tenth_suc : (k v : ℕ) → tenth (suc k) v ≡ tenth k v / 10
 unfolding tenth
-tenth_more place i v rest h e = let left : place - i ≡ suc (place - (i + 1)) = omega arith in e ∙ rw left
-
-pub tenth_done : (place i v rest : ℕ) → place ≤ i → tenth place v ≡ tenth (place - i) rest → tenth place v ≡ rest
-unfolding tenth
-tenth_done place i v rest h e = let none : place - i ≡ 0 = omega arith in e ∙ rw none
+tenth_suc zero v = refl
+tenth_suc (suc k) v = tenth_suc k (v / 10)
 
 -- the digit with k - 1 - i digits behind it
 last_at : (k v i : ℕ) → i < k → get_or (last_digits k v) i 0 ≡ 48 + tenth (k - 1 - i) v % 10
@@ -130,9 +126,6 @@ module _ (area₀ : List ℕ) (at : ℕ) (a b d : List ℕ) (fits : at + (length
           so₃ ∙ rw (joined, place) (pasted_more area₀ at (a ++ b) (omega (arith, length-append a b)) d)
           ∙ ap (pasted area₀ at) (append_assoc a b d)
 
-      pub three_long : (area₃ : List ℕ) → area₃ ≡ pasted area₂ p₂ d → length area₃ ≡ length area₀
-      three_long area₃ so₃ = ap length so₃ ∙ pasted_length area₂ p₂ d three_fits ∙ long₂
-
 -- a number behind a key is three pieces: the key, the numeral and the mark
 module _ (area₀ : List ℕ) (at : ℕ) (key : List ℕ) (v mark : ℕ)
     (fits : at + length (item key v mark) ≤ length area₀) where
@@ -142,13 +135,7 @@ module _ (area₀ : List ℕ) (at : ℕ) (key : List ℕ) (v mark : ℕ)
   pieces_fit : at + (length key + length (numeral v) + 1) ≤ length area₀
   pieces_fit = omega (arith, item-length)
 
-  pub key_fits : at + length key ≤ length area₀
-  key_fits = omega (arith, pieces_fit)
-
   module _ (p₁ : ℕ) (area₁ : List ℕ) (one : (p₁ ≡ at + length key) × (area₁ ≡ pasted area₀ at key)) where
-    pub numeral_fits : p₁ + length (numeral v) ≤ length area₁
-    numeral_fits = two_fits area₀ at key (numeral v) (mark ∷ []) pieces_fit p₁ area₁ one.0 one.1
-
     module _ (p₂ : ℕ) (area₂ : List ℕ)
         (two : (p₂ ≡ p₁ + length (numeral v)) × (area₂ ≡ pasted area₁ p₁ (numeral v))) where
       pub mark_fits : p₂ < length area₂
@@ -158,11 +145,6 @@ module _ (area₀ : List ℕ) (at : ℕ) (key : List ℕ) (v mark : ℕ)
             three_fits area₀ at key (numeral v) (mark ∷ []) pieces_fit p₁ area₁ one.0 one.1 p₂ area₂
                 two.0 two.1,
           )
-
-      pub item_long : length (set area₂ p₂ mark) ≡ length area₀
-      item_long =
-          three_long area₀ at key (numeral v) (mark ∷ []) pieces_fit p₁ area₁ one.0 one.1 p₂ area₂ two.0
-          two.1 (set area₂ p₂ mark) (byte_placed area₂ p₂ mark mark_fits)
 
       pub item_placed : (p₂ + 1 ≡ at + length (item key v mark))
           × (set area₂ p₂ mark ≡ pasted area₀ at (item key v mark))

@@ -23,12 +23,9 @@ use Rattle.table.specs.declared.Row.{Row}
 use Rattle.table.specs.declared.Refusal.{Refusal}
 use Rattle.table.specs.Table.{refuse, most_rows}
 use Rattle.text.specs.declared.Header.{Header}
-use Rattle.text.specs.declared.Reading.{Reading}
-use Rattle.text.specs.declared.Reading.TheVariants.{Read, Refused}
-use Rattle.text.specs.declared.Writing.{Writing}
-use Rattle.text.specs.declared.Writing.TheVariants.{Written, Refused as NotWritten}
+use Rattle.std.specs.Prelude.{Ok, Err}
 use Rattle.text.specs.Text.{greatest_value, text_of, RowsFit, body_of, rows_at, reading_of, rows_read, filled}
-use Rattle.text.specs.Text.{writing_of, area_after, TextTaken, TextPut}
+use Rattle.text.specs.Text.{Reading, Writing, writing_of, area_after, TextTaken, TextPut}
 use Rattle.text.proofs.RoundTrip.{read_back, write_back, read_fits, rows_counted, written_again, IsText}
 use Rattle.text.proofs.RoundTrip.{read_iff_text}
 
@@ -43,7 +40,7 @@ pub one_writing : {n : ℕ} {rows : List Row} {area area₁ area₂ : List ℕ} 
 one_writing a b = (a.answers ∙ sym b.answers, a.fills ∙ sym b.fills)
 
 -- An accepted reading fills just its rows at the front of the list, and leaves the rest as it was.
-pub accepted_fills : {text : List ℕ} {rows rows' : List Row} {h : Header} → TextTaken text rows (Read h) rows'
+pub accepted_fills : {text : List ℕ} {rows rows' : List Row} {h : Header} → TextTaken text rows (Ok h) rows'
     → (take h.rows rows' ≡ rows_read text (length rows)) × (drop h.rows rows' ≡ drop h.rows rows)
     × (length rows' ≡ length rows)
 accepted_fills {text} {rows} {rows'} {h} t =
@@ -62,20 +59,16 @@ accepted_fills {text} {rows} {rows'} {h} t =
     )
 
 -- A refused reading gives no rows.
-pub none_read : (text : List ℕ) (lent : ℕ) (x : Refusal) → Refused x ≡ reading_of text lent → rows_read text lent ≡ []
+pub none_read : (text : List ℕ) (lent : ℕ) (x : Refusal) → Err x ≡ reading_of text lent → rows_read text lent ≡ []
 unfolding rows_read rows_at
 none_read text lent x e = ap (λ (r : Reading). rows_at (filled r) (body_of text)) (sym e)
 
 -- A refused reading leaves the list as it was.
-pub refused_leaves_rows : {text : List ℕ} {rows rows' : List Row} {x : Refusal} → TextTaken text rows (Refused x) rows'
+pub refused_leaves_rows : {text : List ℕ} {rows rows' : List Row} {x : Refusal} → TextTaken text rows (Err x) rows'
     → rows' ≡ rows
 refused_leaves_rows {text} {rows} {rows'} {x} t =
     t.fills ∙ ap (λ (found : List Row). found ++ drop (length found) rows)
     (none_read text (length rows) x t.answers)
-
--- A refusal is not a length.
-not_both : (x : Refusal) (k : ℕ) → NotWritten x ≡ Written k → ⊥
-not_both x k e = let z : ◌≡◌ {A = ℕ} 0 1 = cc in omega arith
 
 -- What a written text says of its table.
 record Wrote (n : ℕ) (rows : List Row) (room k : ℕ) : Type 0 where
@@ -83,15 +76,15 @@ record Wrote (n : ℕ) (rows : List Row) (room k : ℕ) : Type 0 where
   enough : length (text_of n rows) ≤ room
   long : k ≡ length (text_of n rows)
 
-wrote : (n : ℕ) (rows : List Row) (room k : ℕ) → writing_of n rows room ≡ Written k → Wrote n rows room k
+wrote : (n : ℕ) (rows : List Row) (room k : ℕ) → writing_of n rows room ≡ Ok k → Wrote n rows room k
 unfolding writing_of
 wrote n rows room k e = go (ltb most_rows (length rows)) (ltb room (length (text_of n rows))) refl refl e
   where
     go : (a b : Bool) → ltb most_rows (length rows) ≡ a → ltb room (length (text_of n rows)) ≡ b
-        → cond a (NotWritten (refuse 2 0 0))
-        (cond b (NotWritten (refuse 22 0 0)) (Written (length (text_of n rows)))) ≡ Written k → Wrote n rows room k
-    go true b p q e = absurd (not_both _ k e)
-    go false true p q e = absurd (not_both _ k e)
+        → cond a (Err (refuse 2 0 0))
+        (cond b (Err (refuse 22 0 0)) (Ok (length (text_of n rows)))) ≡ Ok k → Wrote n rows room k
+    go true b p q e = absurd cc
+    go false true p q e = absurd cc
     go false false p q e = record {
       few = ltb-false most_rows (length rows) p;
       enough =
@@ -101,7 +94,7 @@ wrote n rows room k e = go (ltb most_rows (length rows)) (ltb room (length (text
 
 -- A refused writing leaves the area as it was.
 pub refused_leaves_area : {n : ℕ} {rows : List Row} {area area' : List ℕ} {x : Refusal}
-    → TextPut n rows area (NotWritten x) area' → area' ≡ area
+    → TextPut n rows area (Err x) area' → area' ≡ area
 unfolding writing_of area_after
 refused_leaves_area {n} {rows} {area} {area'} {x} p =
     p.fills ∙ go (ltb most_rows (length rows)) (ltb (length area) (length (text_of n rows))) p.answers
@@ -109,16 +102,16 @@ refused_leaves_area {n} {rows} {area} {area'} {x} p =
     after : List ℕ
     after = text_of n rows ++ drop (length (text_of n rows)) area
 
-    go : (a b : Bool) → NotWritten x ≡ cond a (NotWritten (refuse 2 0 0))
-        (cond b (NotWritten (refuse 22 0 0)) (Written (length (text_of n rows))))
+    go : (a b : Bool) → Err x ≡ cond a (Err (refuse 2 0 0))
+        (cond b (Err (refuse 22 0 0)) (Ok (length (text_of n rows))))
         → cond a area (cond b area after) ≡ area
     go true b e = refl
     go false true e = refl
-    go false false e = absurd (not_both x (length (text_of n rows)) e)
+    go false false e = absurd cc
 
 module _ (n : ℕ) (rows : List Row) (area : List ℕ) (few : length rows ≤ most_rows)
     (enough : length (text_of n rows) ≤ length area) where
-  writes : writing_of n rows (length area) ≡ Written (length (text_of n rows))
+  writes : writing_of n rows (length area) ≡ Ok (length (text_of n rows))
   unfolding writing_of
   writes = rw (le-ltb most_rows (length rows) few, le-ltb (length area) (length (text_of n rows)) enough)
 
@@ -130,16 +123,16 @@ module _ (n : ℕ) (rows : List Row) (area : List ℕ) (few : length rows ≤ mo
 -- it.
 pub written_with_room : {n : ℕ} {rows : List Row} {area area' : List ℕ} {r : Writing} → length rows ≤ most_rows
     → length (text_of n rows) ≤ length area → TextPut n rows area r area'
-    → (r ≡ Written (length (text_of n rows))) × (area' ≡ text_of n rows ++ drop (length (text_of n rows)) area)
+    → (r ≡ Ok (length (text_of n rows))) × (area' ≡ text_of n rows ++ drop (length (text_of n rows)) area)
 written_with_room {n} {rows} {area} few enough p =
     (p.answers ∙ writes n rows area few enough, p.fills ∙ leaves n rows area few enough)
 
 -- What `write` wrote, `read` reads back as the same nodes and rows, and leaves the rest of its list. Nodes and rows of
 -- 16 bits are all that a caller can pass.
 pub written_is_read : {n : ℕ} {rows : List Row} {area area' : List ℕ} {k : ℕ} {lent lent' : List Row} {r : Reading}
-    → n ≤ greatest_value → RowsFit rows → length rows ≤ length lent → TextPut n rows area (Written k) area'
+    → n ≤ greatest_value → RowsFit rows → length rows ≤ length lent → TextPut n rows area (Ok k) area'
     → TextTaken (take k area') lent r lent'
-    → (r ≡ Read (record { nodes = n; rows = length rows })) × (lent' ≡ rows ++ drop (length rows) lent)
+    → (r ≡ Ok (record { nodes = n; rows = length rows })) × (lent' ≡ rows ++ drop (length rows) lent)
 written_is_read {n} {rows} {area} {area'} {k} {lent} {lent'} {r} nodes_fit rows_fit room p t =
     let w = wrote n rows (length area) k (sym p.answers) in
     let text = text_of n rows in
@@ -160,18 +153,18 @@ written_is_read {n} {rows} {area} {area'} {k} {lent} {lent'} {r} nodes_fit rows_
 -- Every text that `read` accepts is what `write` writes of the nodes and rows that were read, into an area that can
 -- take it.
 pub read_is_written : {text : List ℕ} {lent lent' : List Row} {h : Header} {area area' : List ℕ} {w : Writing}
-    → length text ≤ length area → TextTaken text lent (Read h) lent'
+    → length text ≤ length area → TextTaken text lent (Ok h) lent'
     → TextPut h.nodes (take h.rows lent') area w area'
-    → (w ≡ Written (length text)) × (area' ≡ text ++ drop (length text) area)
+    → (w ≡ Ok (length text)) × (area' ≡ text ++ drop (length text) area)
 read_is_written {text} {lent} {lent'} {h} {area} {area'} {w} room t p =
-    let e : reading_of text (length lent) ≡ Read h = sym t.answers in
+    let e : reading_of text (length lent) ≡ Ok h = sym t.answers in
     let found = rows_read text (length lent) in
     let same : take h.rows lent' ≡ found = (accepted_fills t).0 in
     let stands : text ≡ text_of h.nodes found = write_back text (length lent) h e in
     let enough : length (text_of h.nodes found) ≤ length area = omega (arith, ap length stands, room) in (
       p.answers ∙ ap (λ (xs : List Row). writing_of h.nodes xs (length area)) same
           ∙ writes h.nodes found area (read_fits text (length lent) h e).few enough
-          ∙ ap (λ (b : List ℕ). Written (length b)) (sym stands),
+          ∙ ap (λ (b : List ℕ). Ok (length b)) (sym stands),
       p.fills ∙ ap (λ (xs : List Row). area_after h.nodes xs area) same
           ∙ written_again text (length lent) h area e room,
     )
@@ -179,7 +172,7 @@ read_is_written {text} {lent} {lent'} {h} {area} {area'} {w} room t p =
 -- An answer of `read` that accepts.
 pub record Accepts (r : Reading) : Type 0 where
   pub head : Header
-  pub so : r ≡ Read head
+  pub so : r ≡ Ok head
 
 -- `read` accepts a text exactly if it is the text of a table that fits.
 pub accepted_iff_text : {text : List ℕ} {rows rows' : List Row} {r : Reading} → TextTaken text rows r rows'

@@ -16,11 +16,10 @@ use lib.Dec.{eqb, ltb}
 use lib.ListN.{length, drop, length-append, length-drop}
 use lib.Seq.{drop-append-le}
 use Rattle.table.specs.Table.{most_rows}
-use Rattle.text.specs.declared.Reading.{Reading}
-use Rattle.text.specs.declared.Reading.TheVariants.{Read, Refused}
+use Rattle.std.specs.Prelude.{Ok, Err}
 use Rattle.text.specs.Text.{line_feed, nodes_key, rows_key, row_keys, item, starts, is_digit, digits_at, item_value}
 use Rattle.text.specs.Text.{item_good, item_rest, line_rest, wrong_line, rows_keys, nodes_in, rows_in, body_of}
-use Rattle.text.specs.Text.{reading_of_rows, reading_of_body, reading_of, rows_read}
+use Rattle.text.specs.Text.{Reading, reading_of_rows, reading_of_body, reading_of, rows_read}
 use Rattle.text.proofs.Lengths.{item_most, bytes_of, row_bytes}
 use Rattle.text.proofs.FirstWrong.{keys_of}
 use Rattle.text.proofs.RoundTrip.{write_back, read_fits, longest_text}
@@ -138,8 +137,8 @@ module _ (text more : List ℕ) (lent : ℕ) (long : enough ≤ length text) whe
   rest_reads_nothing = go (reading_of text lent) refl
     where
       go : (r : Reading) → reading_of text lent ≡ r → rows_read (text ++ more) lent ≡ rows_read text lent
-      go (Read h) e =
+      go (Ok h) e =
           let most = longest_text h.nodes (rows_read text lent) (read_fits text lent h e).few in
           absurd (omega (arith, most, ap length (write_back text lent h e), enough_is))
-      go (Refused x) e =
+      go (Err x) e =
           none_read (text ++ more) lent x (sym (rest_changes_nothing ∙ e)) ∙ sym (none_read text lent x (sym e))

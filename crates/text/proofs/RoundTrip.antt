@@ -16,9 +16,8 @@ use lib.Dec.{eqb, ltb}
 use lib.ListN.{length, drop, length-append}
 use Rattle.table.specs.Table.{refuse}
 use Rattle.table.specs.declared.Row.{Row}
-use Rattle.table.specs.declared.Refusal.{Refusal}
 use Rattle.text.specs.declared.Header.{Header}
-use Rattle.text.specs.declared.Reading.TheVariants.{Read, Refused}
+use Rattle.std.specs.Prelude.{Ok, Err}
 use Rattle.text.specs.Text.{nodes_key, rows_key, width, line, row_text, rows_text, text_of, row_keys, RowsFit}
 use Rattle.text.specs.Text.{TableFits, line_value, line_good, line_rest, behind_lines, wrong_line, rows_keys, row_at}
 use Rattle.text.specs.Text.{rows_at, nodes_in, rows_in, body_of, reading_of_rows, reading_of_body, reading_of, rows_read}
@@ -47,7 +46,7 @@ module _ (n : ℕ) (rows : List Row) (lent : ℕ) (fits : TableFits n rows lent)
   abbrev lines : List ℕ
   lines = line rows_key (length rows) ++ rows_text rows
 
-  reading_is : reading_of (text_of n rows) lent ≡ Read (record { nodes = n; rows = length rows })
+  reading_is : reading_of (text_of n rows) lent ≡ Ok (record { nodes = n; rows = length rows })
   unfolding reading_of reading_of_body reading_of_rows nodes_in rows_in body_of text_of
   reading_is =
       let one = line_found nodes_key n lines fits.nodes_fit in
@@ -71,7 +70,7 @@ module _ (n : ℕ) (rows : List Row) (lent : ℕ) (fits : TableFits n rows lent)
       let two = line_found rows_key (length rows) (rows_text rows) small_count in
       rw (reading_is, one.2, two.2) (rows_back rows 3 fits.rows_fit).1
 
-  pub read_back : (reading_of (text_of n rows) lent ≡ Read (record { nodes = n; rows = length rows }))
+  pub read_back : (reading_of (text_of n rows) lent ≡ Ok (record { nodes = n; rows = length rows }))
       × (rows_read (text_of n rows) lent ≡ rows)
   read_back = (reading_is, rows_are)
 
@@ -102,10 +101,7 @@ record Accepted (text : List ℕ) (lent : ℕ) (h : Header) : Type 0 where
   right : wrong_line (rows_keys (rows_in text)) (body_of text) 3 ≡ 0
   head : h ≡ record { nodes = nodes_in text; rows = rows_in text }
 
-pub refused_not : (r : Refusal) (h : Header) → Refused r ≡ Read h → ⊥
-refused_not r h e = let z : ◌≡◌ {A = ℕ} 0 1 = cc in omega arith
-
-accepted : (text : List ℕ) (lent : ℕ) (h : Header) → reading_of text lent ≡ Read h → Accepted text lent h
+accepted : (text : List ℕ) (lent : ℕ) (h : Header) → reading_of text lent ≡ Ok h → Accepted text lent h
 unfolding reading_of reading_of_body reading_of_rows
 accepted text lent h e =
     go (line_good nodes_key text) (line_good rows_key (line_rest nodes_key text)) (ltb 512 (rows_in text))
@@ -119,15 +115,15 @@ accepted text lent h e =
 
     go : (a b c d f : Bool) → line_good nodes_key text ≡ a → line_good rows_key (line_rest nodes_key text) ≡ b
         → ltb 512 (rows_in text) ≡ c → ltb lent (rows_in text) ≡ d → eqb wrong 0 ≡ f
-        → cond a (cond b (cond c (Refused (refuse 2 0 0)) (cond d (Refused (refuse 21 0 0))
-        (cond f (Read found) (Refused (refuse 20 wrong 0))))) (Refused (refuse 20 2 0)))
-        (Refused (refuse 20 1 0)) ≡ Read h
+        → cond a (cond b (cond c (Err (refuse 2 0 0)) (cond d (Err (refuse 21 0 0))
+        (cond f (Ok found) (Err (refuse 20 wrong 0))))) (Err (refuse 20 2 0)))
+        (Err (refuse 20 1 0)) ≡ Ok h
         → Accepted text lent h
-    go false b c d f p q r s t e = absurd (refused_not _ h e)
-    go true false c d f p q r s t e = absurd (refused_not _ h e)
-    go true true true d f p q r s t e = absurd (refused_not _ h e)
-    go true true false true f p q r s t e = absurd (refused_not _ h e)
-    go true true false false false p q r s t e = absurd (refused_not _ h e)
+    go false b c d f p q r s t e = absurd cc
+    go true false c d f p q r s t e = absurd cc
+    go true true true d f p q r s t e = absurd cc
+    go true true false true f p q r s t e = absurd cc
+    go true true false false false p q r s t e = absurd cc
     go true true false false true p q r s t e =
         record {
           first = p;
@@ -139,7 +135,7 @@ accepted text lent h e =
           head = cc;
         }
 
-module _ (text : List ℕ) (lent : ℕ) (h : Header) (e : reading_of text lent ≡ Read h) where
+module _ (text : List ℕ) (lent : ℕ) (h : Header) (e : reading_of text lent ≡ Ok h) where
   said : Accepted text lent h
   said = accepted text lent h e
 
@@ -183,7 +179,7 @@ module _ (text : List ℕ) (lent : ℕ) (h : Header) (e : reading_of text lent �
 -- A text is read: there is a head that its reading gives.
 pub record IsRead (text : List ℕ) (lent : ℕ) : Type 0 where
   pub head : Header
-  pub so : reading_of text lent ≡ Read head
+  pub so : reading_of text lent ≡ Ok head
 
 -- A text is the text of a table that fits.
 pub record IsText (text : List ℕ) (lent : ℕ) : Type 0 where
@@ -208,7 +204,7 @@ read_iff_text text lent = (
   },
 )
 
-pub written_again : (text : List ℕ) (lent : ℕ) (h : Header) (area : List ℕ) → reading_of text lent ≡ Read h
+pub written_again : (text : List ℕ) (lent : ℕ) (h : Header) (area : List ℕ) → reading_of text lent ≡ Ok h
     → length text ≤ length area → area_after h.nodes (rows_read text lent) area ≡ text ++ drop (length text) area
 unfolding area_after
 written_again text lent h area e room =

@@ -1,10 +1,5 @@
--- What the inner functions of the reader and the writer say: columns, digits, and bytes at a place of an area.
+-- What the inner functions of the reader and the writer say: digits, and bytes at a place of an area.
 use Rattle.std.specs.Prelude.{ℕ, zero, suc, ◌+◌, ◌/◌, ◌≤◌, ◌≡◌, List, ◌++◌, length, take, drop}
-use Rattle.table.specs.declared.Columns.{Columns}
-
--- Four columns as one table's.
-abbrev pub held : (src dst len due : List ℕ) → Columns
-held src dst len due = record { src = src; dst = dst; len = len; due = due }
 
 -- What is left of a number when its last k digits are taken off.
 unfoldable pub tenth : ℕ → ℕ → ℕ

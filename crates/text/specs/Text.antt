@@ -1,13 +1,10 @@
 -- The table as text, in the words of document 01: lines of key=value in a fixed order, and what is wrong with a text.
 use Rattle.std.specs.Prelude.{ℕ, zero, suc, ◌+◌, ◌-◌, ◌*◌, ◌/◌, ◌%◌, ◌≤◌, ◌≡◌, Bool, true, false, cond, ◌&&◌, List, [], ◌∷◌, ◌++◌, eqb, ltb, leb, length, get_or, drop}
+use Rattle.std.specs.Prelude.{Result, Ok, Err}
 use Rattle.table.specs.Table.{refuse, most_rows, row_numbers, row_by}
-use Rattle.table.specs.Steps.{columns, listed}
 use Rattle.table.specs.declared.Row.{Row}
-use Rattle.text.specs.declared.Parsed.{Parsed}
-use Rattle.text.specs.declared.Reading.{Reading}
-use Rattle.text.specs.declared.Reading.TheVariants.{Read, Refused}
-use Rattle.text.specs.declared.Writing.{Writing}
-use Rattle.text.specs.declared.Writing.TheVariants.{Written, Refused as NotWritten}
+use Rattle.table.specs.declared.Refusal.{Refusal}
+use Rattle.text.specs.declared.Header.{Header}
 
 -- A line feed, and the digit 0.
 abbrev pub line_feed : ℕ
@@ -184,48 +181,48 @@ rows_in text = line_value rows_key (line_rest nodes_key text)
 unfoldable pub body_of : List ℕ → List ℕ
 body_of text = line_rest rows_key (line_rest nodes_key text)
 
+-- What reading a text comes to: the table's head, or a refusal.
+abbrev pub Reading : Type 0
+Reading = Result Header Refusal
+
 -- What the lines from 3 on come to: 20 with the number of the first wrong line, or the table's head.
 unfoldable pub reading_of_rows : (nodes rows : ℕ) → List ℕ → Reading
 reading_of_rows n k body =
     let wrong = wrong_line (rows_keys k) body 3 in
-    cond (eqb wrong 0) (Read (record { nodes = n; rows = k })) (Refused (refuse 20 wrong 0))
+    cond (eqb wrong 0) (Ok (record { nodes = n; rows = k })) (Err (refuse 20 wrong 0))
 
 -- Directly after line 2: 2 for more than 512 rows, then 21 if the lent list is too short, then the lines of the rows.
 unfoldable pub reading_of_body : (nodes rows lent : ℕ) → List ℕ → Reading
 reading_of_body n k lent body =
     let rest = reading_of_rows n k body in
-    cond (ltb most_rows k) (Refused (refuse 2 0 0)) (cond (ltb lent k) (Refused (refuse 21 0 0)) rest)
+    cond (ltb most_rows k) (Err (refuse 2 0 0)) (cond (ltb lent k) (Err (refuse 21 0 0)) rest)
 
 -- What reading a text comes to, where so many records are lent: lines 1 and 2 first, each 20 where it is wrong.
 unfoldable pub reading_of : (text : List ℕ) (lent : ℕ) → Reading
 reading_of text lent =
     let rest = reading_of_body (nodes_in text) (rows_in text) lent (body_of text) in
-    let second = cond (line_good rows_key (line_rest nodes_key text)) rest (Refused (refuse 20 2 0)) in
-    cond (line_good nodes_key text) second (Refused (refuse 20 1 0))
+    let second = cond (line_good rows_key (line_rest nodes_key text)) rest (Err (refuse 20 2 0)) in
+    cond (line_good nodes_key text) second (Err (refuse 20 1 0))
 
 -- The number of records that a reading fills: those of the table where it is read, and none where it is refused.
 abbrev pub filled : Reading → ℕ
-filled (Read h) = h.rows
-filled (Refused r) = 0
+filled (Ok h) = h.rows
+filled (Err r) = 0
 
 -- The rows that a reading of a text gives.
 unfoldable pub rows_read : (text : List ℕ) (lent : ℕ) → List Row
 rows_read text lent = rows_at (filled (reading_of text lent)) (body_of text)
 
--- A text was read, where so many records are lent: the reading, the number of its rows, and the rows by columns, with
--- zeros behind them.
-pub record TextParsed (text : List ℕ) (lent : ℕ) (p : Parsed) : Type 0 where
-  pub judged : p.reading ≡ reading_of text lent
-  pub counted : p.rows ≡ length (rows_read text lent)
-  pub held : p.columns ≡ columns (rows_read text lent)
-  pub rows : listed p.rows p.columns ≡ rows_read text lent
+-- What writing a table comes to: the length of its text, or a refusal.
+abbrev pub Writing : Type 0
+Writing = Result ℕ Refusal
 
 -- What writing a table into an area of so many bytes comes to: 2 for more than 512 rows, then 22 if the area is too
 -- short, and else the length.
 unfoldable pub writing_of : (nodes : ℕ) (rows : List Row) (room : ℕ) → Writing
 writing_of n rows room =
-    cond (ltb most_rows (length rows)) (NotWritten (refuse 2 0 0))
-    (cond (ltb room (length (text_of n rows))) (NotWritten (refuse 22 0 0)) (Written (length (text_of n rows))))
+    cond (ltb most_rows (length rows)) (Err (refuse 2 0 0))
+    (cond (ltb room (length (text_of n rows))) (Err (refuse 22 0 0)) (Ok (length (text_of n rows))))
 
 -- The area after writing: the text and what stood behind it, and as it was where it is refused.
 unfoldable pub area_after : (nodes : ℕ) (rows : List Row) (area : List ℕ) → List ℕ
@@ -233,19 +230,10 @@ area_after n rows area =
     cond (ltb most_rows (length rows)) area
     (cond (ltb (length area) (length (text_of n rows))) area (text_of n rows ++ drop (length (text_of n rows)) area))
 
--- The number of document 01 for each answer, 0 where there is no refusal, and the line that it names, 0 where it names
--- none.
-abbrev pub number_of_reading : Reading → ℕ
-number_of_reading (Read h) = 0
-number_of_reading (Refused r) = r.number
-
-abbrev pub line_of_reading : Reading → ℕ
-line_of_reading (Read h) = 0
-line_of_reading (Refused r) = r.row
-
+-- The number of document 01 for what writing comes to, 0 where there is no refusal.
 abbrev pub number_of_writing : Writing → ℕ
-number_of_writing (Written n) = 0
-number_of_writing (NotWritten r) = r.number
+number_of_writing (Ok n) = 0
+number_of_writing (Err r) = r.number
 
 -- What `read` promises, where those rows are lent: the answer is the reading, the rows that it gives fill the front of
 -- the list, and the rest is as it was. A refused reading gives no rows.

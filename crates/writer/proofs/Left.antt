@@ -1,25 +1,20 @@
 -- What is left to write: the lines of a row from one line on, and the lines of the rows from one row on.
 --     lines_next, rows_next_lem      the next of them, and those behind it
 --     no_lines, no_rows          nothing is left
---     rows_most                  how many bytes are enough
 --     Summed, Laid               the bytes of j lines of a row are counted; they stand at their place
 -- Assumes nothing.
 use mathlib.Core.Path.{◌≡◌, refl, ◌∙◌, ap}
 use mathlib.Core.List.{List, [], ◌++◌}
-use Prim.Native.Nat.{ℕ, ◌+◌, ◌*◌, ◌≤◌, ◌<◌}
+use Prim.Native.Nat.{ℕ, ◌+◌, ◌≤◌, ◌<◌}
 use native.Mathlib.Omega.{arith}
 use native.Mathlib.Numerals.{add-one}
 use lib.ListN.{length, get_or, drop, length-append, drop_of_length-le}
 use lib.Seq.{drop-cons}
-use Rattle.lists.proofs.Build.{get_or_build}
 use Rattle.table.specs.Table.{row_numbers}
-use Rattle.table.specs.Steps.{none, listed}
-use Rattle.table.specs.declared.Columns.{Columns}
-use Rattle.table.proofs.Rows.{row_of, length-listed}
 use Rattle.table.specs.declared.Row.{Row}
 use Rattle.text.specs.Text.{row_keys, line, lines_text, row_text, rows_text}
 use Rattle.text.specs.Steps.{pasted, Put, Room}
-use Rattle.text.proofs.Lengths.{bytes_of, row_bytes, lines_most, rows_long}
+use Rattle.text.proofs.Lengths.{bytes_of, row_bytes, lines_most}
 use Rattle.text.proofs.Putting.{Putting, begun, fits, put_on, one_put, all_put}
 
 pub lines_next : (keys : List (List ℕ)) (vs : List ℕ) (j : ℕ) → length vs ≡ length keys → j < length keys
@@ -36,22 +31,14 @@ lines_small : (vs : List ℕ) → length (lines_text row_keys vs) ≤ row_bytes
 unfolding row_keys bytes_of
 lines_small vs = lines_most row_keys vs
 
-module _ (rows : ℕ) (c : Columns) where
-  pub rows_next_lem : (i : ℕ) → i < rows
-      → rows_text (drop i (listed rows c)) ≡ row_text (row_of c i) ++ rows_text (drop (i + 1) (listed rows c))
-  unfolding rows_text listed
-  rows_next_lem i h =
-      let inside : i < length (listed rows c) = omega (arith, length-listed rows c) in
-      rw (add-one, drop-cons (listed rows c) i none inside, get_or_build rows (row_of c) i none h)
+pub rows_next_lem : (rows : List Row) (i : ℕ) (r : Row) → i < length rows
+    → rows_text (drop i rows) ≡ row_text (get_or rows i r) ++ rows_text (drop (i + 1) rows)
+unfolding rows_text
+rows_next_lem rows i r h = rw (add-one, drop-cons rows i r h)
 
-  pub no_rows : (i : ℕ) → rows ≤ i → rows_text (drop i (listed rows c)) ≡ []
-  unfolding rows_text
-  no_rows i h =
-      let past : length (listed rows c) ≤ i = omega (arith, length-listed rows c) in
-      rw (drop_of_length-le (listed rows c) past)
-
-  pub rows_most : length (rows_text (listed rows c)) ≤ row_bytes * rows
-  rows_most = omega (arith, rows_long (listed rows c), length-listed rows c)
+pub no_rows : (rows : List Row) (i : ℕ) → length rows ≤ i → rows_text (drop i rows) ≡ []
+unfolding rows_text
+no_rows rows i h = rw (drop_of_length-le rows h)
 
 -- the bytes of j lines are counted, and those of the lines that are left make the whole
 pub record Summed (vs : List ℕ) (sum j : ℕ) : Type 0 where

@@ -1,3 +1,2 @@
 mod Left
 mod Outcomes
-pub mod Lent

@@ -1,52 +1,35 @@
 -- `catalogue::judge_lines` meets its contract: as long as the lines passed are right, the verdict is that of the rest.
 -- Assumes nothing.
-use mathlib.Core.Path.{◌≡◌, ◌∙◌, sym, ap}
-use Prim.Native.Nat.{◌+◌, ◌<◌}
-use native.Mathlib.Omega.{arith}
-use lib.ListN.{length-drop, length, drop}
-use Rattle.catalogue.proofs.Keys.{keys_all}
+use Rattle.std.proofs.Common.{◌≡◌, ◌+◌, ◌<◌, length, drop, arith, ap, sym, ◌∙◌}
+use borrow.Author.Tests.{eqb-true, eqb-false}
 use Rattle.catalogue.specs.Catalogue.{keys, lines_verdict}
 use Rattle.catalogue.specs.Steps.{lines}
-use Rattle.catalogue.proofs.Lines.{behind_at, room_behind, lines_bad, lines_good, lines_over, lines_extra}
+use Rattle.catalogue.proofs.Keys.{keys_all}
+use Rattle.catalogue.proofs.LineLemmas.{lines_bad, lines_good, lines_over, lines_extra}
 use Rattle.catalogue.proofs.judge_lines.Goals as goal
 
-pub returns-then-number-ne0 : goal.returns-then-number-ne0
-returns-then-number-ne0 c =
+pub returns-in-Err : goal.returns-in-Err
+returns-in-Err c =
     let l = c.loop-i in
-    let number = c.line_refusal-number.ensures in
-    let bad = lines_bad keys l.i _ _ (omega (arith, keys_all)) number c.if-number-ne0.true in
-    c.refused.ensures ∙ sym (l.invariant.2 ∙ bad)
-
-pub overflow_add-at : goal.overflow_add-at
-overflow_add-at c =
-    let l = c.loop-i in
-    let text = c.args.text.now in
-    let good = sym c.line_refusal-number.ensures ∙ c.if-number-ne0.false in
-    omega (arith, room_behind text l.at _ _ l.invariant.1 c.line_end-at.ensures good)
+    let bad = lines_bad keys l.i _ (omega (arith, keys_all)) (sym c.line_refusal.ensures ∙ c.in-Err.is) in
+    rw c.of_row.ensures (sym (l.invariant ∙ bad))
 
 pub loop-i-preserved : goal.loop-i-preserved
 loop-i-preserved c =
     let l = c.loop-i in
-    let text = c.args.text.now in
-    let good = sym c.line_refusal-number.ensures ∙ c.if-number-ne0.false in
-    let next = lines_good keys l.i (drop l.at text) (omega (arith, keys_all)) good in
-    let behind = behind_at text l.at _ c.line_end-at.ensures in
-    let fits = room_behind text l.at _ _ l.invariant.1 c.line_end-at.ensures good in
-    (omega arith, fits, l.invariant.2 ∙ next ∙ ap (lines_verdict (drop (l.i + 1) keys) (l.i + 1)) behind)
+    let next = lines_good keys l.i _ (omega (arith, keys_all)) (sym c.line_refusal.ensures ∙ c.in_default.is) in
+    l.invariant ∙ next ∙ ap (lines_verdict (drop (l.i + 1) keys) (l.i + 1)) (sym c.behind_line-rest.ensures)
 
-pub returns-then-at-text : goal.returns-then-at-text
-returns-then-at-text c =
+pub returns-then-not-is_empty : goal.returns-then-not-is_empty
+returns-then-not-is_empty c =
     let l = c.loop-i in
-    let text = c.args.text.now in
     let all : l.i ≡ lines = omega arith in
-    let some : 0 < length (drop l.at text) = omega (arith, length-drop l.at text) in
-    let extra = lines_extra keys lines (drop l.at text) (omega (arith, keys_all)) some in
-    c.refused-then-at-text.ensures ∙ sym (l.invariant.2 ∙ rw all extra)
+    let some : 0 < length l.rest.now = omega (arith, eqb-false (length l.rest.now) 0 (sym c.is_empty.ensures ∙ c.if-not-is_empty.true)) in
+    rw c.of_row-then-not-is_empty.ensures (sym (l.invariant ∙ rw all (lines_extra keys lines _ (omega (arith, keys_all)) some)))
 
 pub returns : goal.returns
 returns c =
     let l = c.loop-i in
-    let text = c.args.text.now in
     let all : l.i ≡ lines = omega arith in
-    let none : length (drop l.at text) ≡ 0 = omega (arith, length-drop l.at text) in
-    sym (l.invariant.2 ∙ rw all (lines_over keys lines (drop l.at text) (omega (arith, keys_all)) none))
+    let none : length l.rest.now ≡ 0 = eqb-true (length l.rest.now) 0 (sym c.is_empty.ensures ∙ c.if-not-is_empty.false) in
+    sym (l.invariant ∙ rw all (lines_over keys lines _ (omega (arith, keys_all)) none))

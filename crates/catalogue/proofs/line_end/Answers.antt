@@ -1,23 +1,16 @@
--- `catalogue::line_end` meets its contract: as long as no line feed is passed, the line goes on.
+-- `catalogue::line_end` meets its contract: the line ends at the first line feed, or with the text.
 -- Assumes nothing.
-use native.Mathlib.Omega.{arith}
-use Rattle.catalogue.proofs.Lines.{line_here, line_next, line_done}
+use Rattle.std.proofs.Common.{sym, ◌∙◌}
+use Rattle.catalogue.proofs.Places.{first_found, first_missing}
+use Rattle.catalogue.proofs.LineLemmas.{feed_at}
 use Rattle.catalogue.proofs.line_end.Goals as goal
 
-pub returns-then-text-end-eq10 : goal.returns-then-text-end-eq10
-returns-then-text-end-eq10 c =
-    let l = c.loop-end in
+pub returns-in-Some : goal.returns-in-Some
+returns-in-Some c =
     let text = c.args.text.now in
-    omega (arith, l.invariant.1, line_here text l.end (omega arith) c.if-text-end-eq10.true)
+    sym (feed_at text ∙ (first_found _ text (sym c.first_feed.ensures ∙ c.in-Some.is)).0)
 
-pub loop-end-preserved : goal.loop-end-preserved
-loop-end-preserved c =
-    let l = c.loop-end in
+pub returns-in-None : goal.returns-in-None
+returns-in-None c =
     let text = c.args.text.now in
-    (omega arith, omega (arith, l.invariant.1, line_next text l.end (omega arith) c.if-text-end-eq10.false))
-
-pub returns : goal.returns
-returns c =
-    let l = c.loop-end in
-    let text = c.args.text.now in
-    omega (arith, l.invariant.1, line_done text l.end (omega arith))
+    sym (feed_at text ∙ first_missing _ text (sym c.first_feed.ensures ∙ c.in-None.is))

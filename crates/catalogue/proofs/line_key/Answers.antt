@@ -1,15 +1,17 @@
--- `catalogue::line_key` meets its contract: the key of an answer, or of a field.
+-- `catalogue::line_key` meets its contract: the table has the keys in their order.
 -- Assumes nothing.
-use Rattle.catalogue.proofs.Keys.{answer_key, field_key, holds_same}
+use Rattle.std.proofs.Common.{◌≡◌, [], ℕ, zero, suc, List, ◌∷◌, Bor, get_or, map, refl}
+use Rattle.text.specs.Text.{width, last_digits, numeral}
+use Rattle.catalogue.specs.Catalogue.{key_of, keys}
 use Rattle.catalogue.proofs.line_key.Goals as goal
 
-pub returns-then-i-lt-ANSWERS : goal.returns-then-i-lt-ANSWERS
-returns-then-i-lt-ANSWERS c =
-    let s = c in
-    let key = answer_key s.args.i s.if-i-lt-ANSWERS.true in
-    holds_same (rw c.number_at.ensures key) c.key_of.ensures
+-- The bytes of a key of a table of keys.
+bytes_of : (table : List (Bor (List ℕ))) (i : ℕ) (d : Bor (List ℕ))
+    → (get_or table i d).now ≡ get_or (map (λ (key : Bor (List ℕ)). key.now) table) i d.now
+bytes_of [] i d = refl
+bytes_of (key ∷ table) zero d = refl
+bytes_of (key ∷ table) (suc i) d = bytes_of table i d
 
 pub returns : goal.returns
-returns c =
-    let s = c in
-    holds_same (field_key s.args.i c.if-i-lt-ANSWERS.false s.requires) c.key_of-2.ensures
+unfolding keys key_of numeral width last_digits
+returns c = rw bytes_of refl

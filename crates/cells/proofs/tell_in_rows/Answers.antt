@@ -1,29 +1,24 @@
--- `cells::tell_in_rows` meets its contract: after k turns the first k entries name rows.
+-- `cells::tell_in_rows` meets its contract: the first entries name rows, the others cells as before.
 -- Assumes nothing.
-use mathlib.Core.Path.{◌≡◌, refl, ◌∙◌, ap}
-use Prim.Native.Nat.{ℕ}
+use mathlib.Core.Path.{◌∙◌}
 use native.Mathlib.Omega.{arith}
-use lib.ListN.{length, length-set}
-use Rattle.lists.proofs.Filling.{filled_more, filled_whole}
+use mathlib.Core.List.{append-nil}
+use lib.ListN.{get_or}
+use Rattle.std.proofs.lemmas.List.{take_all, drop_all, get_or_default}
+use Rattle.std.proofs.lemmas.List.Edits.{map_over_more}
+use Rattle.slack.specs.Slack.{owners_in}
 use Rattle.cells.specs.Cells.{owner_of, told_by}
-use Rattle.cells.proofs.Telling.{map_is, told, untouched}
 use Rattle.cells.proofs.tell_in_rows.Goals as goal
 
-pub loop-k-preserved : goal.loop-k-preserved
-loop-k-preserved c =
-    let a = c.args in
-    let l = c.loop-k in
-    let plan₀ = a.plan.now in
-    let f : ℕ → ℕ = told a.owner.now plan₀ in
-    let v : c.row_of.result ≡ f l.k
-    = c.row_of.ensures ∙ ap (owner_of a.owner.now) (untouched f plan₀ l.plan l.k l.invariant.2) in
-    (omega arith, simp length-set l.invariant.1, rw (v, l.invariant.2) (filled_more f plan₀ l.k (omega arith)))
+pub loop-entry-preserved : goal.loop-entry-preserved
+loop-entry-preserved c =
+    let l = c.loop-entry in
+    let x = get_or l.plan l.entry-index 0 in
+    rw (c.row_of.ensures) (map_over_more (owner_of (owners_in c.args.cells.now)) c.args.plan.now l.plan l.entry-index x (omega arith) l.invariant (get_or_default l.plan l.entry-index 0 x (omega arith)))
 
 pub returns : goal.returns
 unfolding told_by
 returns c =
-    let a = c.args in
-    let l = c.loop-k in
-    let plan₀ = a.plan.now in
-    l.invariant.2 ∙ filled_whole (told a.owner.now plan₀) plan₀ l.k (length plan₀) (omega arith) refl
-    ∙ map_is (owner_of a.owner.now) plan₀
+    let plan = c.args.plan.now in
+    let i = c.loop-entry.entry-index in
+    c.loop-entry.invariant ∙ rw (take_all i plan (omega arith), drop_all i plan (omega arith), append-nil)

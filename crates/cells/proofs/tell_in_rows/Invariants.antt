@@ -1,16 +1,10 @@
--- `cells::tell_in_rows` meets its contract: after k turns the first k entries name rows.
+-- `cells::tell_in_rows` meets its contract: the first entries name rows, the others cells as before.
 -- Assumes nothing.
-use mathlib.Core.Path.{◌≡◌}
-use Prim.Native.Nat.{◌-◌, ◌≤◌}
-use lib.ListN.{length}
-use Rattle.lists.proofs.Filling.{filled}
-use Rattle.cells.proofs.Telling.{told}
+use Rattle.std.proofs.Common.{◌≡◌, ◌++◌, map, take, drop}
+use Rattle.slack.specs.Slack.{owners_in}
+use Rattle.cells.specs.Cells.{owner_of}
 use Rattle.cells.proofs.tell_in_rows.Given as goal
 
-abbrev pub invariant-loop-k : goal.invariant-loop-k
-invariant-loop-k l =
-    (l.k ≤ length l.initial.plan) × (length l.plan ≡ length l.initial.plan)
-    × (l.plan ≡ filled (told l.owner l.initial.plan) l.initial.plan l.k)
-
-abbrev pub decreases-loop-k : goal.decreases-loop-k
-decreases-loop-k l = length l.initial.plan - l.k
+abbrev pub invariant-loop-entry : goal.invariant-loop-entry
+invariant-loop-entry l =
+    l.plan ≡ map (owner_of (owners_in l.cells)) (take l.entry-index l.initial.plan) ++ drop l.entry-index l.initial.plan

@@ -7,4 +7,4 @@ use Rattle.edit_store.proofs.add_row.Goals as goal
 pub returns : goal.returns
 returns c =
     let a = c.args in
-    added a.table.now a.row _ _ c.requires c.step_loads.ensures c.put_row.ensures
+    added a.table.now a.row _ _ c.requires c.raise_loads.ensures c.put_row.ensures

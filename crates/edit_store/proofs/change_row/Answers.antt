@@ -8,4 +8,4 @@ pub returns : goal.returns
 returns c =
     let a = c.args in
     changed a.table.now a.number c.requires a.row _ _ _ _ c.row_in-old.ensures
-    c.step_loads.ensures c.step_loads-2.ensures c.put_row.ensures
+    c.lower_loads.ensures c.raise_loads.ensures c.put_row.ensures

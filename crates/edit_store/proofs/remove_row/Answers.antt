@@ -7,5 +7,5 @@ use Rattle.edit_store.proofs.remove_row.Goals as goal
 pub returns : goal.returns
 returns c =
     let a = c.args in
-    removed a.table.now a.number c.requires _ _ _ _ _ refl refl c.row_in-old.ensures
-    c.step_loads.ensures c.close_gap.ensures
+    removed a.table.now a.number c.requires _ _ _ _ _ refl refl c.row_in-gone.ensures
+    c.lower_loads.ensures c.close_gap.ensures

@@ -1,16 +1,7 @@
--- `edit_store::step_all` meets its contract: after i turns the first i counts are stepped.
--- Assumes nothing.
-use mathlib.Core.Path.{◌≡◌}
-use Prim.Native.Nat.{◌≤◌, ◌-◌}
-use lib.ListN.{length, get_or}
-use Rattle.lists.proofs.Filling.{filled}
-use Rattle.edit_store.specs.Store.{step_by}
+-- `edit_store::step_all` meets its contract: the counts passed are stepped, and the others are as they came.
+use Rattle.std.proofs.Common.{◌≡◌, ◌++◌, map, take, drop}
 use Rattle.edit_store.proofs.step_all.Given as goal
 
-abbrev pub invariant-loop-i : goal.invariant-loop-i
-invariant-loop-i l =
-    (l.i ≤ length l.initial.part) × (length l.part ≡ length l.initial.part)
-    × (l.part ≡ filled (λ j. step_by l.up l.step (get_or l.initial.part j 0)) l.initial.part l.i)
-
-abbrev pub decreases-loop-i : goal.decreases-loop-i
-decreases-loop-i l = length l.initial.part - l.i
+abbrev pub invariant-loop-count : goal.invariant-loop-count
+invariant-loop-count g l =
+    let d = l.initial.part in l.part ≡ map g.by (take l.count-index d) ++ drop l.count-index d

@@ -4,6 +4,6 @@ use Rattle.edit_store.proofs.Storing.{way_put}
 use Rattle.edit_store.proofs.step_loads.Goals as goal
 
 pub returns : goal.returns
-returns c =
+returns g c =
     let a = c.args in
-    way_put a.up a.nodes a.row a.table.now _ c.step_way.ensures
+    way_put g.by a.nodes a.row a.table.now _ c.step_way.ensures

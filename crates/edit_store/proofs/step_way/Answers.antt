@@ -4,13 +4,13 @@ use Rattle.edit_store.proofs.Stepping.{way_ahead, way_round}
 use Rattle.edit_store.proofs.step_way.Goals as goal
 
 pub returns-then-row : goal.returns-then-row
-returns-then-row c =
+returns-then-row g c =
     let a = c.args in
-    way_ahead a.up a.nodes a.row a.load.now c.requires.0 c.requires.1 c.lower-from.ensures
-    c.lower-to.ensures c.if-row.true c.step_all.ensures
+    way_ahead g.by a.nodes a.row a.load.now c.requires.1.1.0 c.requires.1.1.1 c.min-from.ensures
+    c.min-to.ensures c.if-row.true c.step_all.ensures
 
 pub returns-else-row : goal.returns-else-row
-returns-else-row c =
+returns-else-row g c =
     let a = c.args in
-    way_round a.up a.nodes a.row a.load.now c.requires.0 c.requires.1 c.lower-from.ensures
-    c.lower-to.ensures c.if-row.false c.step_all-else-row.ensures c.step_all-else-row-2.ensures
+    way_round g.by a.nodes a.row a.load.now c.requires.1.1.0 c.requires.1.1.1 c.min-from.ensures
+    c.min-to.ensures c.if-row.false c.step_all-else-row.ensures c.step_all-else-row-2.ensures

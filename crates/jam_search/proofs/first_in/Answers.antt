@@ -1,27 +1,38 @@
 -- `jam_search::first_in` meets its contract: at slot b the link is overfull before none of the slots in front, and the
 -- cells are those that must cross before them.
 -- Assumes nothing.
-use mathlib.Core.Path.{◌∙◌}
 use native.Mathlib.Omega.{arith}
-use Rattle.jam_search.proofs.Searching.{all_counted, scanned_none}
-use Rattle.jam_search.proofs.Searching.{scanned_end, sum_small, scanned_here, scanned_more}
+use Rattle.jam_search.proofs.Searching.{widened, scanned_none, scanned_end, sum_small, scanned_here, scanned_more}
 use Rattle.jam_search.proofs.first_in.Goals as goal
 
+pub count_ends-counts-requires : goal.count_ends-counts-requires
+count_ends-counts-requires c = (widened c.requires.0 c.requires.0.short (omega arith), c.requires.1)
+
 pub loop-b-init : goal.loop-b-init
-loop-b-init c = (all_counted c.requires.0 c.requires.2 c.count_ends.ensures, scanned_none)
+loop-b-init c = scanned_none
 
-pub overflow_add-cells : goal.overflow_add-cells
-overflow_add-cells c = omega (arith, sum_small c.loop-b.invariant.1 c.loop-b.invariant.0 (omega arith))
+pub overflow_add-sum : goal.overflow_add-sum
+overflow_add-sum c =
+    let s = c.requires.0 in
+    let small = sum_small c.loop-b.invariant s c.count_ends-counts.ensures (omega arith) (omega (arith, s.short)) in
+    omega (arith, small)
 
-pub returns-then-b-cells : goal.returns-then-b-cells
-returns-then-b-cells c =
-    let i = c.loop-b.invariant in
-    scanned_here i.1 i.0 (omega arith) (omega (arith, c.if-b-cells.true))
+pub returns-then-b-sum : goal.returns-then-b-sum
+returns-then-b-sum c =
+    let s = c.requires.0 in
+    scanned_here c.loop-b.invariant s c.count_ends-counts.ensures (omega arith) (omega (arith, s.short)) (omega arith)
 
 pub loop-b-preserved : goal.loop-b-preserved
 loop-b-preserved c =
-    let i = c.loop-b.invariant in
-    (i.0, scanned_more i.1 i.0 (omega arith) (omega (arith, c.if-b-cells.false)))
+    let s = c.requires.0 in
+    scanned_more c.loop-b.invariant s c.count_ends-counts.ensures (omega arith) (omega (arith, s.short)) (omega arith)
 
 pub returns : goal.returns
-returns c = c.no_jam.ensures ∙ scanned_end c.loop-b.invariant.1 (omega arith)
+returns c = scanned_end c.loop-b.invariant (omega arith)
+
+pub returns-else-b-sum : goal.returns-else-b-sum
+returns-else-b-sum c =
+    let s = c.requires.0 in
+    let more = scanned_more c.loop-b.invariant s c.count_ends-counts.ensures (omega arith) (omega (arith, s.short))
+    (omega arith) in
+    scanned_end more (omega arith)

@@ -1,50 +1,45 @@
--- `reader::read_rows` meets its contract: the rows passed are in the columns, and the whole answer is that of the rest.
--- Assumes nothing.
-use native.Mathlib.Omega.{arith}
+-- `reader::read_rows` meets its contract: the rows passed are read, and what is left decides as the whole did.
+use Rattle.std.proofs.Common.{rules, arith}
+use Rattle.std.proofs.lemmas.List.{take_rest}
 use Rattle.text.specs.Text.{row_keys}
 use Rattle.lines.proofs.Rows.{row_lines}
 use Rattle.lines.proofs.Passed.{row_broken, row_whole}
-use Rattle.reader.proofs.Loading.{none_loaded, more_loaded, stopped_at, left_over, all_loaded}
+use Rattle.reader.proofs.Loading.{none_loaded, as_many, more_loaded, stopped_at, left_over, all_loaded}
 use Rattle.reader.proofs.read_rows.Goals as goal
 
-pub loop-i-init : goal.loop-i-init
-loop-i-init c =
-    let a = c.args in
-    let zeros = c.requires in
-    none_loaded a.text.now a.from a.rows a.src.now a.dst.now a.len.now a.due.now
-    zeros.0 zeros.2 zeros.3 zeros.4 zeros.5
+pub loop-init : goal.loop-init
+loop-init c = rw c.new-rows.ensures (none_loaded c.args.text.now c.args.count)
+
+pub push-requires : goal.push-requires
+push-requires c = omega (arith, as_many c.loop.invariant)
 
 pub overflow_add-result : goal.overflow_add-result
 overflow_add-result c =
-    let text = c.args.text.now in
-    let k = c.loop-i in
-    let s = c.row_at in
-    let g = c.in-Broken in
-    let broken = row_broken text k.at s.result s.ensures g.k g.is in
-    omega (arith, broken.0, k.invariant.counted, row_lines.1)
+    let broken = row_broken c.loop.rest.now c.row_at.result c.row_at.ensures c.in-Err.right c.in-Err.is in
+    omega (arith, broken.0, c.loop.invariant.counted, row_lines.1)
 
-pub returns-in-Broken : goal.returns-in-Broken
-returns-in-Broken c =
-    let text = c.args.text.now in
-    let k = c.loop-i in
-    let s = c.row_at in
-    let g = c.in-Broken in
-    let broken = row_broken text k.at s.result s.ensures g.k g.is in
-    stopped_at k.invariant c.loop-i-test.true g.k broken
+pub returns-in-Err : goal.returns-in-Err
+returns-in-Err c =
+    let broken = row_broken c.loop.rest.now c.row_at.result c.row_at.ensures c.in-Err.right c.in-Err.is in
+    stopped_at c.loop.invariant c.loop-test.true c.in-Err.right broken
 
-pub loop-i-preserved : goal.loop-i-preserved
+-- The lines of the row that was seen stand at the front of what is left.
+pub slice_bounds-rest-count : goal.slice_bounds-rest-count
+slice_bounds-rest-count c =
+    (row_whole c.loop.rest.now c.row_at.result c.row_at.ensures c.in-Ok.seen c.in-Ok.is).inside
+
+pub slice_bounds-rest-start : goal.slice_bounds-rest-start
+slice_bounds-rest-start c =
+    (row_whole c.loop.rest.now c.row_at.result c.row_at.ensures c.in-Ok.seen c.in-Ok.is).inside
+
+pub loop-preserved : goal.loop-preserved
 unfolding row_keys
-loop-i-preserved c =
-    let text = c.args.text.now in
-    let k = c.loop-i in
-    let s = c.row_at in
-    let g = c.in-Whole in
-    let passed = row_whole text k.at s.result s.ensures g.row g.next k.invariant.inside g.is in
-    more_loaded k.invariant c.loop-i-test.true g.row g.next
-    c.requires.1 passed
+loop-preserved c =
+    rw (c.push.ensures.items, take_rest c.loop.rest.now c.in-Ok.seen.length) (more_loaded c.loop.invariant
+    c.loop-test.true c.in-Ok.seen (row_whole c.loop.rest.now c.row_at.result c.row_at.ensures c.in-Ok.seen c.in-Ok.is))
 
-pub returns-then-at-text : goal.returns-then-at-text
-returns-then-at-text c = left_over c.loop-i.invariant c.loop-i-test.false c.if-at-text.true
+pub returns-then-not-is_empty : goal.returns-then-not-is_empty
+returns-then-not-is_empty c = left_over c.loop.invariant (omega arith) (search rules)
 
 pub returns : goal.returns
-returns c = all_loaded c.loop-i.invariant c.loop-i-test.false c.if-at-text.false
+returns c = all_loaded c.loop.invariant (omega arith) (search rules)

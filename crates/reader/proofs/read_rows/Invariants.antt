@@ -1,12 +1,6 @@
--- `reader::read_rows` meets its contract: the rows passed are in the columns, and the whole answer is that of the rest.
--- Assumes nothing.
-use Prim.Native.Nat.{◌-◌}
+-- `reader::read_rows` meets its contract: the rows passed are read, and what is left decides as the whole did.
 use Rattle.reader.proofs.Loading.{Loaded}
 use Rattle.reader.proofs.read_rows.Given as goal
 
-abbrev pub invariant-loop-i : goal.invariant-loop-i
-invariant-loop-i l =
-    Loaded l.text l.from l.rows l.src l.dst l.len l.due l.at l.line l.i
-
-abbrev pub decreases-loop-i : goal.decreases-loop-i
-decreases-loop-i l = l.rows - l.i
+abbrev pub invariant-loop : goal.invariant-loop
+invariant-loop l = Loaded l.text l.count l.rows.items l.rest l.line l.counter

@@ -1,14 +1,12 @@
--- `reason::mark` meets its contract: after c turns the counts are those of the first c cells.
+-- `reason::mark` meets its contract: after i turns the counts are those of the first i cells.
 -- Assumes nothing.
-use Prim.Native.Nat.{◌≤◌, ◌-◌}
+use mathlib.Core.Path.{◌≡◌}
 use lib.ListN.{length}
-use Rattle.slack.specs.Slack.{traffic}
-use Rattle.reason.proofs.Marks.{Marked}
+use Rattle.slack.specs.Slack.{traffic_of, owners_in}
+use Rattle.reason.specs.Steps.{marks_by}
 use Rattle.reason.proofs.mark.Given as goal
 
-abbrev pub invariant-loop-c : goal.invariant-loop-c
-invariant-loop-c l =
-    (l.c ≤ length l.left) × Marked (traffic l.nodes l.dst l.due) l.owner l.left l.link l.slot (length l.initial.members) l.c l.members
-
-abbrev pub decreases-loop-c : goal.decreases-loop-c
-decreases-loop-c l = length l.left - l.c
+abbrev pub invariant-loop-i : goal.invariant-loop-i
+invariant-loop-i l =
+    l.members
+    ≡ marks_by (traffic_of l.cargo) (owners_in l.cargo.cells.now) l.left l.jam.link.0 l.jam.before.0 (length l.fn.members) l.i

@@ -1,15 +1,9 @@
--- `report::put_sends` meets its contract: after t turns the lines of the first t slots stand at their place.
--- Assumes nothing.
-use Prim.Native.Nat.{◌-◌, ◌*◌, ◌≤◌}
-use lib.ListN.{drop}
+-- `report::put_sends` meets its contract: the lines of the slots passed stand at their place.
+use Rattle.std.proofs.Common.{◌/◌, length}
 use Rattle.report.specs.Report.{send_lines}
-use Rattle.text.proofs.Putting.{Putting}
+use Rattle.report.proofs.Listing.{Unsent}
 use Rattle.report.proofs.put_sends.Given as goal
 
-abbrev pub invariant-loop-t : goal.invariant-loop-t
-invariant-loop-t l =
-    (l.t ≤ l.slots) × Putting l.initial.area l.from (send_lines l.nodes l.slots l.plan) l.area l.at
-    (send_lines l.nodes (l.slots - l.t) (drop (l.t * l.nodes) l.plan))
-
-abbrev pub decreases-loop-t : goal.decreases-loop-t
-decreases-loop-t l = l.slots - l.t
+abbrev pub invariant-loop-entries : goal.invariant-loop-entries
+invariant-loop-entries l =
+    Unsent l.nodes l.initial.area l.from (send_lines l.nodes (length l.plan / l.nodes) l.plan) l.area l.at l.entries-iterator

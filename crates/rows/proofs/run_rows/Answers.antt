@@ -1,17 +1,22 @@
--- `rows::run_rows` meets its contract: the fronts of five lists have just room for the cells.
+-- `rows::run_rows` meets its contract: the cells that are laid out are run, and their arrivals gathered by rows.
 -- Assumes nothing.
-use Rattle.cells.proofs.Laid.{room_is}
+use mathlib.Core.Path.{◌∙◌}
+use Rattle.rows.proofs.Rowing.{fits, opens, can_run, rows_ran}
 use Rattle.rows.proofs.run_rows.Goals as goal
 
-pub run_in-requires : goal.run_in-requires
-run_in-requires c =
-    let room = room_is c.sum-cells.ensures c.requires.few in (
-      c.requires,
-      record {
-        dsts_long = room _ c.no_cells-dsts.ensures;
-        dues_long = room _ c.no_cells-dues.ensures;
-        owner_long = room _ c.no_cells-owner.ensures;
-        left_long = room _ c.no_cells-left.ensures;
-        stamps_long = room _ c.no_cells-stamps.ensures;
-      },
-    )
+pub lay_out-requires : goal.lay_out-requires
+lay_out-requires c = opens _ _ _ c.requires c.count_cells-count.ensures c.no_cells-cells.ensures c.zeros-left.ensures
+
+pub run-ending-requires : goal.run-ending-requires
+run-ending-requires c =
+    can_run _ _ _ c.requires c.lay_out.ensures _ (fits _ _ _ c.requires c.count_cells-count.ensures _ c.zeros-stamps.ensures)
+
+pub gather_last-requires : goal.gather_last-requires
+gather_last-requires c = (
+  c.requires.some,
+  c.run-ending.auto.arrivals ∙ fits _ _ _ c.requires c.count_cells-count.ensures _ c.zeros-stamps.ensures,
+  c.requires.each,
+)
+
+pub returns : goal.returns
+returns c = rows_ran _ _ _ c.requires c.lay_out.ensures c.run-ending.ensures c.gather_last.ensures

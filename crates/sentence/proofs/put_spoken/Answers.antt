@@ -28,7 +28,7 @@ returns-then-area-length c =
     let long = spoken_long a.string.now a.row a.slot in
     let short : length a.area.now < length bytes =
     omega (arith, long, c.width_of.ensures, c.width_of-2.ensures) in
-    no_room bytes a.area.now c.not_written.ensures short
+    no_room bytes a.area.now c.of_table.ensures short
 
 pub put_item-third-requires : goal.put_item-third-requires
 put_item-third-requires c =
@@ -37,8 +37,7 @@ put_item-third-requires c =
     let fits : length (spoken a.string.now a.row a.slot) ≤ length a.area.now =
     omega (arith, long, c.width_of.ensures, c.width_of-2.ensures) in
     let one = c.put_bytes-second in
-    let fit = row_fits a.string.now a.area.now a.row a.slot fits one.result one.new.area one.ensures in
-    (fit, omega arith)
+    row_fits a.string.now a.area.now a.row a.slot fits one.result one.new.area one.ensures
 
 pub put_numeral-requires : goal.put_numeral-requires
 put_numeral-requires c =

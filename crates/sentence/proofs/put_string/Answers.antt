@@ -6,7 +6,7 @@ use Rattle.sentence.proofs.Putting.{no_room, put_whole}
 use Rattle.sentence.proofs.put_string.Goals as goal
 
 pub returns-then-area-string : goal.returns-then-area-string
-returns-then-area-string c = no_room _ _ c.not_written.ensures c.if-area-string.true
+returns-then-area-string c = no_room _ _ c.of_table.ensures c.if-area-string.true
 
 pub returns : goal.returns
 returns c = put_whole _ _ refl (omega arith) c.put_bytes.ensures.1

@@ -1,8 +1,10 @@
 -- `sentence::sentence` meets its contract: a text that is no catalogue is refused as such.
 -- Assumes nothing.
-use mathlib.Core.Path.{◌∙◌, sym}
+use Rattle.std.proofs.Common.{◌≡◌, Err, rules}
 use Rattle.sentence.proofs.Putting.{not_a_catalogue}
 use Rattle.sentence.proofs.sentence.Goals as goal
 
-pub returns-in-Refused : goal.returns-in-Refused
-returns-in-Refused c = not_a_catalogue _ _ _ _ (sym c.judge-verdict.ensures ∙ c.in-Refused.is)
+pub returns-in_err-open : goal.returns-in_err-open
+returns-in_err-open c =
+    let same : c.from_residual.result ≡ Err c.in_err-open.field-0.0 = search rules in
+    rw same (not_a_catalogue _ _ _ _ c.in_err-open.ensures.bad)

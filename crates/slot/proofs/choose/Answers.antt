@@ -1,13 +1,11 @@
--- `slot::choose` meets its contract: after i turns the slot is what the first i rows make it.
+-- `slot::choose` meets its contract: before the first row every link is idle.
 -- Assumes nothing.
 use mathlib.Core.Path.{◌∙◌}
-use native.Mathlib.Omega.{arith}
-use Rattle.slot.specs.Steps.{board}
+use Rattle.slot.specs.Steps.{board_of}
 use Rattle.slot.proofs.Looking.{none_looked}
 use Rattle.slot.proofs.choose.Goals as goal
 
 pub loop-i-init : goal.loop-i-init
 loop-i-init c =
     let a = c.args in
-    let B = board a.nodes a.dst.now a.left.now a.figure.now in
-    (omega arith, c.clear.ensures ∙ none_looked B _ c.requires.2)
+    c.clear.ensures ∙ none_looked (board_of a.cargo a.left.now a.figure.now) _ c.requires.2

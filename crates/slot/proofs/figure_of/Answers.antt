@@ -11,7 +11,7 @@ use Rattle.slot.proofs.figure_of.Goals as goal
 pub returns : goal.returns
 unfolding figure_of slack_of
 returns c =
-    let a = c.args in
+    let cell = c.args.cell in
     let turn = c.turn_of-turn in
-    is_slack a.due.0 a.dst.0 turn.result (omega arith) (omega arith) (omega (arith, turn.type_inv))
-    ∙ ap (λ (k : ℕ). slack_of a.due.0 a.dst.0 k) turn.ensures
+    is_slack cell.due.0 cell.dst.0 turn.result (omega arith) (omega arith) (omega (arith, turn.type_inv))
+    ∙ ap (λ (k : ℕ). slack_of cell.due.0 cell.dst.0 k) turn.ensures

@@ -1,6 +1,7 @@
 -- `slot::plan_slot` meets its contract: what `choose` says is what `pass_node_0` and `send` ask.
 -- Assumes nothing.
 use native.Mathlib.Omega.{arith}
+use Rattle.slack.specs.Slack.{dsts_in}
 use Rattle.slot.proofs.Slotting.{can_choose, can_turn, can_send, planned}
 use Rattle.slot.proofs.plan_slot.Goals as goal
 
@@ -21,5 +22,5 @@ send-requires c =
 pub returns : goal.returns
 returns c =
     let a = c.args in
-    planned a.nodes a.dst.now a.left.now a.arrivals.now a.figure.now a.t.0 _ _ _ _
+    planned a.cargo.nodes (dsts_in a.cargo.cells.now) a.left.now a.arrivals.now a.figure.now a.t.0 _ _ _ _
     c.choose.ensures c.pass_node_0.ensures c.send.ensures

@@ -9,40 +9,39 @@ use Rattle.slot.proofs.Sending.{arrivals_first, arrivals_long, arrivals_idle, ar
 use Rattle.slot.proofs.send.Goals.{then-row-gt0, else-row-gt0}
 use Rattle.slot.proofs.send.Goals as goal
 
-pub loop-p-init : goal.loop-p-init
-loop-p-init c =
+pub loop-row-init : goal.loop-row-init
+loop-row-init c =
     let end = c.args.t.0 + 1 in
-    (omega arith, left_first c.requires.0 end, arrivals_first c.requires.0 end)
+    (left_first c.requires.0 end, arrivals_first c.requires.0 end)
 
 pub bounds-left-i : goal.bounds-left-i
 bounds-left-i c =
     let k = c.requires.0 in
-    let here = row_inside k (c.args.t.0 + 1) c.loop-p.p (omega arith) (omega arith) in
-    omega (arith, here, left_long k (c.args.t.0 + 1) c.loop-p.p, ap length c.loop-p.invariant.1)
+    let here = row_inside k (c.args.t.0 + 1) c.loop-row.row-index (omega arith) (omega arith) in
+    omega (arith, here, left_long k (c.args.t.0 + 1) c.loop-row.row-index, ap length c.loop-row.invariant.0)
 
 pub overflow_sub-left : goal.overflow_sub-left
 overflow_sub-left c =
-    rw c.loop-p.invariant.1 (left_some c.requires.0 (c.args.t.0 + 1) c.loop-p.p (omega arith) (omega arith))
+    rw c.loop-row.invariant.0 (left_some c.requires.0 (c.args.t.0 + 1) c.loop-row.row-index (omega arith) (omega arith))
 
 pub bounds-left-i-then-row-gt0 : goal.bounds-left-i-then-row-gt0
 bounds-left-i-then-row-gt0 c =
     let k = c.requires.0 in
-    let here = row_inside k (c.args.t.0 + 1) c.loop-p.p (omega arith) (omega arith) in
-    omega (arith, here, left_long k (c.args.t.0 + 1) c.loop-p.p, ap length c.loop-p.invariant.1)
+    let here = row_inside k (c.args.t.0 + 1) c.loop-row.row-index (omega arith) (omega arith) in
+    omega (arith, here, left_long k (c.args.t.0 + 1) c.loop-row.row-index, ap length c.loop-row.invariant.0)
 
 pub bounds-arrivals-i : goal.bounds-arrivals-i
 bounds-arrivals-i c =
     let k = c.requires.0 in
-    let here = row_inside k (c.args.t.0 + 1) c.loop-p.p (omega arith) (omega arith) in
-    omega (arith, here, arrivals_long k (c.args.t.0 + 1) c.loop-p.p, ap length c.loop-p.invariant.2)
+    let here = row_inside k (c.args.t.0 + 1) c.loop-row.row-index (omega arith) (omega arith) in
+    omega (arith, here, arrivals_long k (c.args.t.0 + 1) c.loop-row.row-index, ap length c.loop-row.invariant.1)
 
-pub loop-p-preserved : goal.loop-p-preserved
-loop-p-preserved c =
+pub loop-row-preserved : goal.loop-row-preserved
+loop-row-preserved c =
     let k = c.requires.0 in
-    let p = c.loop-p.p in
-    let left = c.loop-p.invariant.1 in
-    let arrivals = c.loop-p.invariant.2 in (
-      omega arith,
+    let p = c.loop-row.row-index in
+    let left = c.loop-row.invariant.0 in
+    let arrivals = c.loop-row.invariant.1 in (
       elim c.if-row-gt0.branch [
         | then-row-gt0 w ↦ w.left-is ∙ left_sent k (c.args.t.0 + 1) p (omega arith) w.if-row-gt0.true _ left
         | else-row-gt0 w ↦ w.left-is ∙ left ∙ left_idle k (c.args.t.0 + 1) p (omega arith) (omega arith)

@@ -1,26 +1,14 @@
--- `text::put_bytes` meets its contract: after j turns the first j bytes stand at their place.
--- Assumes nothing.
-use mathlib.Core.Path.{refl}
-use native.Mathlib.Omega.{arith}
-use lib.ListN.{length-set}
-use Rattle.text.proofs.Pasting.{put_more, put_all}
+-- `text::put_bytes` meets its contract: a part of the area was overwritten by the bytes.
+use Rattle.std.proofs.Common.{◌∙◌, length, refl, arith}
+use Rattle.std.proofs.lemmas.Slice.{put_mid-paste}
+use Rattle.text.proofs.Pasting.{pasted_all}
 use Rattle.text.proofs.put_bytes.Goals as goal
-
-pub loop-j-preserved : goal.loop-j-preserved
-loop-j-preserved c =
-    let start = c in
-    let k = c.loop-j in (
-      omega arith,
-      simp length-set k.invariant.1,
-      put_more start.args.area.now start.args.at start.args.bytes.now start.requires k.j k.area _
-          (omega arith) refl k.invariant.2,
-    )
 
 pub returns : goal.returns
 returns c =
-    let start = c in
-    let k = c.loop-j in (
+    let area = c.args.area.now in
+    let bytes = c.args.bytes.now in (
       refl,
-      put_all start.args.area.now start.args.at start.args.bytes.now start.requires k.j k.area
-          (omega arith) k.invariant.2,
+      put_mid-paste c.args.at _ area _ bytes (length bytes) c.copy_from_slice.ensures.after (omega arith) refl
+          ∙ pasted_all area c.args.at bytes,
     )

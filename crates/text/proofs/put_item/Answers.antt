@@ -8,5 +8,5 @@ returns c =
     let s = c in
     let one = c.put_bytes-from in
     let two = c.put_numeral-end in
-    item_placed s.args.area.now s.args.at s.args.key.now s.args.v s.args.mark s.requires.0
+    item_placed s.args.area.now s.args.at s.args.key.now s.args.v s.args.mark s.requires
     one.result one.new.area one.ensures two.result two.new.area two.ensures

@@ -11,12 +11,12 @@ loop-j-init c =
 
 pub put_line-next-requires : goal.put_line-next-requires
 put_line-next-requires c =
-    let key = c.row_key-key in
-    (line_fits c.loop-j.invariant (search rules) key.result key.ensures, search rules)
+    let key = c.row_key in
+    line_fits c.loop-j.invariant (search rules) key.result key.ensures
 
 pub loop-j-preserved : goal.loop-j-preserved
 loop-j-preserved c =
-    let key = c.row_key-key in
+    let key = c.row_key in
     let p = c.put_line-next in
     let k = c.loop-j in
     more_laid k.invariant (search rules) key.result key.ensures p.result p.new.area p.ensures

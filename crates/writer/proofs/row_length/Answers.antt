@@ -17,14 +17,14 @@ loop-j-init c = none_summed c.values_of-values.result (ap length c.values_of-val
 pub overflow_add-sum : goal.overflow_add-sum
 overflow_add-sum c =
     let k = c.loop-j in
-    let key = c.row_key-key in
+    let key = c.row_key in
     let l = c.line_length-sum in
     omega (arith, sum_small k.invariant (search rules) key.result l.result key.ensures l.ensures)
 
 pub loop-j-preserved : goal.loop-j-preserved
 loop-j-preserved c =
     let k = c.loop-j in
-    let key = c.row_key-key in
+    let key = c.row_key in
     let l = c.line_length-sum in
     more_summed k.invariant (search rules) key.result l.result key.ensures l.ensures
 

@@ -1,36 +1,26 @@
--- `writer::rows_length` meets its contract: after i turns it is the length of the first i rows' lines.
--- Assumes nothing.
-use mathlib.Core.Path.{ap}
-use Prim.Native.Nat.{◌+◌}
-use native.Mathlib.Omega.{arith}
-use lib.ListN.{length, drop, length-append}
-use Rattle.table.specs.Steps.{listed}
-use Rattle.table.proofs.Rows.{row_of}
+-- `writer::rows_length` meets its contract: the lines counted and those that are left make the whole.
+use Rattle.std.proofs.Common.{◌+◌, length, drop, get_or, ap, length-append, arith}
+use Rattle.table.specs.Steps.{none}
 use Rattle.text.specs.Text.{row_text, rows_text}
-use Rattle.text.specs.Steps.{held}
-use Rattle.writer.proofs.Left.{rows_next_lem, no_rows, rows_most}
+use Rattle.text.proofs.Lengths.{rows_long}
+use Rattle.writer.proofs.Left.{rows_next_lem, no_rows}
 use Rattle.writer.proofs.rows_length.Goals as goal
 
 pub overflow_add-sum : goal.overflow_add-sum
 overflow_add-sum c =
-    let s = c.args in
-    let cols = held s.src.now s.dst.now s.len.now s.due.now in
-    let k = c.loop-i in
-    let next = rows_next_lem s.rows cols k.i (omega arith) in
-    let parts = length-append (row_text (row_of cols k.i)) (rows_text (drop (k.i + 1) (listed s.rows cols))) in
-    omega (arith, ap length next, parts, rows_most s.rows cols, c.row_length-sum.ensures)
+    let rows = c.args.rows.now in
+    let i = c.loop-row.row-index in
+    let next = rows_next_lem rows i none (omega arith) in
+    let parts = length-append (row_text (get_or rows i none)) (rows_text (drop (i + 1) rows)) in
+    omega (arith, ap length next, parts, rows_long rows)
 
-pub loop-i-preserved : goal.loop-i-preserved
-loop-i-preserved c =
-    let s = c.args in
-    let cols = held s.src.now s.dst.now s.len.now s.due.now in
-    let k = c.loop-i in
-    let next = rows_next_lem s.rows cols k.i (omega arith) in
-    let parts = length-append (row_text (row_of cols k.i)) (rows_text (drop (k.i + 1) (listed s.rows cols))) in
-    (omega arith, omega (arith, ap length next, parts, c.row_length-sum.ensures))
+pub loop-row-preserved : goal.loop-row-preserved
+loop-row-preserved c =
+    let rows = c.args.rows.now in
+    let i = c.loop-row.row-index in
+    let next = rows_next_lem rows i none (omega arith) in
+    let parts = length-append (row_text (get_or rows i none)) (rows_text (drop (i + 1) rows)) in
+    omega (arith, ap length next, parts)
 
 pub returns : goal.returns
-returns c =
-    let s = c.args in
-    let cols = held s.src.now s.dst.now s.len.now s.due.now in
-    omega (arith, ap length (no_rows s.rows cols c.loop-i.i (omega arith)))
+returns c = omega (arith, ap length (no_rows c.args.rows.now c.loop-row.row-index (omega arith)))

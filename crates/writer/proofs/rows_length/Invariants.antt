@@ -1,17 +1,7 @@
--- `writer::rows_length` meets its contract: after i turns it is the length of the first i rows' lines.
--- Assumes nothing.
-use mathlib.Core.Path.{◌≡◌}
-use Prim.Native.Nat.{◌+◌, ◌≤◌, ◌-◌}
-use lib.ListN.{length, drop}
-use Rattle.table.specs.Steps.{listed}
+-- `writer::rows_length` meets its contract: the lines counted and those that are left make the whole.
+use Rattle.std.proofs.Common.{◌≡◌, ◌+◌, length, drop}
 use Rattle.text.specs.Text.{rows_text}
-use Rattle.text.specs.Steps.{held}
 use Rattle.writer.proofs.rows_length.Given as goal
 
-abbrev pub invariant-loop-i : goal.invariant-loop-i
-invariant-loop-i l =
-    let all = listed l.rows (held l.src l.dst l.len l.due) in
-    (l.i ≤ l.rows) × (l.sum + length (rows_text (drop l.i all)) ≡ length (rows_text all))
-
-abbrev pub decreases-loop-i : goal.decreases-loop-i
-decreases-loop-i l = l.rows - l.i
+abbrev pub invariant-loop-row : goal.invariant-loop-row
+invariant-loop-row l = l.sum + length (rows_text (drop l.row-index l.rows)) ≡ length (rows_text l.rows)
