@@ -17,7 +17,8 @@ use Rattle.lists.specs.Lists.{build}
 use Rattle.lists.proofs.Build.{length-build, get_or_build, is_build}
 use Rattle.table.specs.Table.{most_rows}
 use Rattle.table.specs.Steps.{none}
-use Rattle.area.specs.Area.{most_links, most_listed, loads_begin, row_place, room}
+use Rattle.area.specs.Area.{most_links, loads_begin, row_place, room}
+use Rattle.area.specs.Steps.{most_listed}
 use Rattle.area.proofs.RowNumbers.{row_by_ext}
 use Rattle.area.specs.Area.{nodes_in, count_in, load_in, loads_in, row_in, rows_in}
 

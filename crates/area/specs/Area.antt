@@ -1,6 +1,6 @@
 -- A table as it lies in its lent area, and what is asked of it: document 02, Ask 2. The panel lends one area: the
 -- number of nodes, the number of rows, the load of each of 32 links, and the numbers of each of 512 rows.
-use Rattle.std.specs.Prelude.{ℕ, suc, ◌+◌, ◌-◌, ◌*◌, min, Bool, cond, ◌||◌, ◌&&◌, List, [], ◌∷◌, ◌++◌, ltb, leb, length, get_or, replicate}
+use Rattle.std.specs.Prelude.{ℕ, ◌+◌, ◌-◌, ◌*◌, min, Bool, cond, ◌||◌, ◌&&◌, List, [], ◌∷◌, ◌++◌, ltb, leb, length, get_or, replicate}
 use Rattle.lists.specs.Lists.{build, largest, first_place}
 use Rattle.table.specs.declared.Row.{Row}
 use Rattle.table.specs.Table.{most_rows, row_numbers, row_by}
@@ -9,10 +9,6 @@ use Rattle.area.specs.declared.LinkLoad.{LinkLoad}
 -- The most links that a ring may have.
 abbrev pub most_links : ℕ
 most_links = 32
-
--- How many of the rows that an area gives are looked at: one more than a table may have, so that too many are seen.
-abbrev pub most_listed : ℕ
-most_listed = suc most_rows
 
 -- How many numbers a row has in an area.
 abbrev pub row_width : ℕ

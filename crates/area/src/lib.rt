@@ -3,7 +3,8 @@
 
 ghost use Rattle.std.specs.Prelude.{◌≡◌, ◌≤◌, ◌<◌, min, length, get_or, take};
 ghost use Rattle.table.specs.Table.{most_rows};
-ghost use Rattle.area.specs.Area.{most_links, most_listed, room, count_in, row_in, rows_in, loads_in, busiest_in};
+ghost use Rattle.area.specs.Area.{most_links, room, count_in, row_in, rows_in, loads_in, busiest_in};
+ghost use Rattle.area.specs.Steps.{most_listed};
 
 use arrayvec::ArrayVec;
 use lists::{first_place, greatest};

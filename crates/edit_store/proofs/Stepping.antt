@@ -130,41 +130,42 @@ module _ (by : ℕ → ℕ) (n : ℕ) (r : Row) where
   unfolding step_for crosses
   on_way_lem p x h b e = rw (lt-ltb p n h, e)
 
+  -- Where a way's stretch begins and where it ends.
+  abbrev start : ℕ
+  start = min r.src n
+
+  abbrev stop : ℕ
+  stop = min r.dst n
+
   pub one_stretch : r.src < r.dst
       → (p x : ℕ)
       → in_stretch by (min r.src n) (min r.dst n) p x ≡ step_for by n r p x
   one_stretch way p x = go (ltb p n) (ltb p r.src) (ltb p r.dst) refl refl refl
     where
-      from : ℕ
-      from = min r.src n
-
-      to : ℕ
-      to = min r.dst n
-
       go : (on before short : Bool)
           → ltb p n ≡ on
           → ltb p r.src ≡ before
           → ltb p r.dst ≡ short
-          → in_stretch by from to p x ≡ step_for by n r p x
+          → in_stretch by start stop p x ≡ step_for by n r p x
       go false before short e f g =
           let past = ltb-false p n e in
-          stretch_above by from to p x (omega arith) ∙ sym (off_ring p x past)
+          stretch_above by start stop p x (omega arith) ∙ sym (off_ring p x past)
       go true true short e f g =
           let less = ltb-true p r.src f in
           let here = ltb-true p n e in
-          stretch_below by from to p x (omega arith)
+          stretch_below by start stop p x (omega arith)
           ∙ sym (on_way_lem p x here false (rw (lt-ltb r.src r.dst way, lt-leb r.src p less)))
       go true false true e f g =
           let more = ltb-false p r.src f in
           let less = ltb-true p r.dst g in
           let here = ltb-true p n e in
-          stretch_in by from to p x (omega arith) (omega arith)
+          stretch_in by start stop p x (omega arith) (omega arith)
           ∙ sym (on_way_lem p x here true (rw (lt-ltb r.src r.dst way, le-leb r.src p more, g)))
       go true false false e f g =
           let more = ltb-false p r.src f in
           let past = ltb-false p r.dst g in
           let here = ltb-true p n e in
-          stretch_above by from to p x (omega arith)
+          stretch_above by start stop p x (omega arith)
           ∙ sym (on_way_lem p x here false (rw (lt-ltb r.src r.dst way, le-leb r.src p more, g)))
 
   pub two_stretches : r.dst ≤ r.src
@@ -172,38 +173,32 @@ module _ (by : ℕ → ℕ) (n : ℕ) (r : Row) where
       → in_stretch by 0 (min r.dst n) p (in_stretch by (min r.src n) n p x) ≡ step_for by n r p x
   two_stretches way p x = go (ltb p n) (ltb p r.src) (ltb p r.dst) refl refl refl
     where
-      from : ℕ
-      from = min r.src n
-
-      to : ℕ
-      to = min r.dst n
-
       go : (on before short : Bool)
           → ltb p n ≡ on
           → ltb p r.src ≡ before
           → ltb p r.dst ≡ short
-          → in_stretch by 0 to p (in_stretch by from n p x) ≡ step_for by n r p x
+          → in_stretch by 0 stop p (in_stretch by start n p x) ≡ step_for by n r p x
       go false before short e f g =
           let past = ltb-false p n e in
-          stretch_above by 0 to p _ (omega arith) ∙ stretch_above by from n p x past
+          stretch_above by 0 stop p _ (omega arith) ∙ stretch_above by start n p x past
           ∙ sym (off_ring p x past)
       go true true true e f g =
           let less = ltb-true p r.dst g in
           let early = ltb-true p r.src f in
           let here = ltb-true p n e in
-          rw (stretch_below by from n p x (omega arith))
-          (stretch_in by 0 to p x (omega arith) (omega arith))
+          rw (stretch_below by start n p x (omega arith))
+          (stretch_in by 0 stop p x (omega arith) (omega arith))
           ∙ sym (on_way_lem p x here true (rw (le-ltb r.src r.dst way, lt-leb r.src p early, g)))
       go true true false e f g =
           let past = ltb-false p r.dst g in
           let early = ltb-true p r.src f in
           let here = ltb-true p n e in
-          stretch_above by 0 to p _ (omega arith) ∙ stretch_below by from n p x (omega arith)
+          stretch_above by 0 stop p _ (omega arith) ∙ stretch_below by start n p x (omega arith)
           ∙ sym (on_way_lem p x here false (rw (le-ltb r.src r.dst way, lt-leb r.src p early, g)))
       go true false short e f g =
           let more = ltb-false p r.src f in
           let here = ltb-true p n e in
-          stretch_above by 0 to p _ (omega arith) ∙ stretch_in by from n p x (omega arith) here
+          stretch_above by 0 stop p _ (omega arith) ∙ stretch_in by start n p x (omega arith) here
           ∙ sym (on_way_lem p x here true (rw (le-ltb r.src r.dst way, le-leb r.src p more)))
 
 -- ---- the counts of a way, in one list of all links

@@ -56,9 +56,7 @@ fn put_sentence(
 ) -> Result<usize, Refusal>
     ensures { Found (is_in number numbers) (sentence lines.entry.text.now number row slot) area.old result area.new }
 {
-    let Some(place) = place_of(number) else {
-        return Err(Refusal::of_table(NO_STRING));
-    };
+    let place = place_of(number).ok_or(Refusal::of_table(NO_STRING))?;
     put_spoken(
         lines.string(place),
         shown(number, row),
