@@ -13,7 +13,7 @@ use Rattle.std.proofs.Common.{Result, Ok, Err}
 use Rattle.lists.specs.Lists.{total}
 use Rattle.table.specs.declared.Row.{Row}
 use Rattle.table.specs.Table.{most_length, row_refusal, after_row, judge_rows, lengths, cells_in}
-use Rattle.table.proofs.Judging.{good_row}
+use Rattle.table.proofs.Judging.{never_good, good_row}
 
 -- No row of the list is bad.
 unfoldable pub AllGood : ℕ → List Row → Type 0
@@ -38,7 +38,7 @@ module _ (n : ℕ) where
           → after_row v (suc above) (judge_rows n rows (suc above)) ≡ Ok tt
           → (judge_rows n rows (suc above) ≡ Ok tt → AllGood n rows) → (row_refusal n r ≡ Ok tt) × AllGood n rows
       go (Ok _) f e rest = (f, rest e)
-      go (Err _) f e rest = absurd cc
+      go (Err _) f e rest = absurd (never_good _ e)
 
   -- Two lists without a bad row, one behind the other.
   pub good_append : (xs ys : List Row) → AllGood n xs → AllGood n ys → AllGood n (xs ++ ys)

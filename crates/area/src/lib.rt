@@ -7,7 +7,7 @@ ghost use Rattle.area.specs.Area.{most_links, room, count_in, row_in, rows_in, l
 ghost use Rattle.area.specs.Steps.{most_listed};
 
 use arrayvec::ArrayVec;
-use lists::{first_place, greatest};
+use lists::{first_place, greatest, lower};
 use ring::Node;
 use table::Row;
 
@@ -68,7 +68,7 @@ pub fn row_count(table: &Area) -> u16
 fn link_count(nodes: u16) -> usize
     ensures { result ≡ min nodes most_links }
 {
-    (nodes as usize).min(MOST_LINKS)
+    lower(nodes as usize, MOST_LINKS)
 }
 
 // How many cells cross a link, 0 for a link that the ring does not have: a panel shows 32 links, whatever the ring.

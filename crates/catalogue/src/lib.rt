@@ -155,12 +155,12 @@ impl<'a> Lines<'a> {
         false
     }
 
-    // The first label that repeats an earlier one, counted from 0.
+    // The first label that repeats an earlier one, counted from 0. Before the first there is none to repeat.
     fn first_repeat(self) -> Option<usize>
         ensures first { result ≡ first_repeat (labels_in self.entry.text.now) (length fields) 0 }
         ensures inside { IfSome result (λ k. k < length fields) }
     {
-        for k in 0..FIELDS {
+        for k in 1..FIELDS {
             if self.repeats(k) {
                 return Some(k);
             }

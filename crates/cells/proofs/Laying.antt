@@ -26,7 +26,7 @@ use Rattle.slack.specs.declared.Cell.{Cell}
 use Rattle.slack.specs.Slack.{dsts_in, dues_in, owners_in}
 use Rattle.cells.specs.Rows.{per_cell, laid_out, owners_of}
 use Rattle.cells.specs.Cells.{dues_of, of_last_cells}
-use Rattle.cells.specs.Steps.{cell_of, Open, Laid, AboveZero}
+use Rattle.cells.specs.Steps.{cell_of, places_in, places_of, Open, Laid, AboveZero}
 use Rattle.cells.proofs.Seats.{first_cell, first_more, first_all, per_cell_length, row_inside}
 
 -- ---- a column laid out
@@ -143,16 +143,18 @@ pub record LayingRows (rows : List Row) (links : List ℕ) (cells₀ : List Cell
   pub due_laid : Laying (λ i j. get_or (dues rows) i 0 - (get_or (lengths rows) i 0 - suc j)) (lengths rows) (dues_in cells₀) i first
       (dues_in cells)
   pub owner_laid : Laying (λ i j. suc i) (lengths rows) (owners_in cells₀) i first (owners_in cells)
+  pub place_laid : Laying (λ i j. suc j) (lengths rows) (places_in cells₀) i first (places_in cells)
   pub left_laid : Laying (λ i j. get_or links i 0) (lengths rows) left₀ i first left
 
 pub rows_none : {rows : List Row} {links : List ℕ} {cells : List Cell} {left : List ℕ} → Open rows links cells left
     → LayingRows rows links cells left 0 0 cells left
-unfolding cells_in dsts_in dues_in owners_in
+unfolding cells_in dsts_in dues_in owners_in places_in
 rows_none {rows} {links} {cells} {left} o =
     record {
       dst_laid = laying_none _ _ _ (length-map cells _ ∙ o.cells_room);
       due_laid = laying_none _ _ _ (length-map cells _ ∙ o.cells_room);
       owner_laid = laying_none _ _ _ (length-map cells _ ∙ o.cells_room);
+      place_laid = laying_none _ _ _ (length-map cells _ ∙ o.cells_room);
       left_laid = laying_none _ _ _ o.left_room;
     }
 
@@ -175,13 +177,14 @@ module _ {rows : List Row} {links : List ℕ} {cells₀ : List Cell} {left₀ : 
       → (to_go : List ℕ) → to_go ≡ replicate r.len (get_or links i 0)
       → LayingRows rows links cells₀ left₀ (i + 1) (first + r.len)
       (put_mid first (first + r.len - first) cells part) (put_mid first (first + r.len - first) left to_go)
-  unfolding dsts_in dues_in owners_in destinations dues
+  unfolding dsts_in dues_in owners_in places_in destinations dues
   rows_more r l is part written to_go all_same =
       rw (put_is first r.len cells part, put_is first r.len left to_go)
       (record {
         dst_laid = rw long at (laying_more h.dst_laid inside _ (column (λ c. c.dst.0) (λ j. get_or (destinations rows) i 0) (λ j. dst_is)));
         due_laid = rw long at (laying_more h.due_laid inside _ (column (λ c. c.due.0) (λ j. get_or (dues rows) i 0 - (get_or (lengths rows) i 0 - suc j)) (λ j. rw (due_is, long))));
         owner_laid = rw long at (laying_more h.owner_laid inside _ (column (λ c. c.row) (λ j. suc i) (λ j. add-one i)));
+        place_laid = rw long at (laying_more h.place_laid inside _ (column (λ c. c.place) (λ j. suc j) (λ j. add-one j)));
         left_laid = rw long at (laying_more h.left_laid inside _ there);
       })
     where
@@ -208,13 +211,14 @@ module _ {rows : List Row} {links : List ℕ} {cells₀ : List Cell} {left₀ : 
       due_is = get_or-map (λ (x : Row). x.due) rows i r 0 l ∙ ap (λ (x : Row). x.due) (sym is)
 
   pub rows_all : length rows ≤ i → Laid rows links cells left
-  unfolding laid_out dues_of owners_of
+  unfolding laid_out dues_of owners_of places_of
   rows_all l =
       let end : length (lengths rows) ≤ i = omega (arith, lengths_long rows) in
       record {
         dst_is = laying_all h.dst_laid end;
         due_is = laying_all h.due_laid end;
         owner_is = laying_all h.owner_laid end;
+        place_is = laying_all h.place_laid end;
         left_is = laying_all h.left_laid end;
       }
 

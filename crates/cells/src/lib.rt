@@ -21,6 +21,7 @@ pub fn no_cells() -> [Cell; 1024]
         dst: Node(0),
         due: Slot(0),
         row: 0,
+        place: 0,
     }; 1024]
 }
 
@@ -36,6 +37,7 @@ fn lay_row(row: Row, number: u16, cells: &mut [Cell])
             dst: Node(row.dst),
             due: Slot(row.due.saturating_sub(behind)),
             row: number,
+            place: j as u16 + 1,
         };
     }
 }

@@ -3,7 +3,6 @@
 use mathlib.Core.Path.{◌≡◌, refl}
 use Prim.Native.Nat.{ℕ}
 use mathlib.Core.List.{List, [], ◌∷◌, map}
-use lib.ListN.{length, replicate}
 use Rattle.std.proofs.Common.{Option, None, Some}
 use Rattle.lists.specs.Lists.{largest}
 use Rattle.ring.specs.Ring.{distance}
@@ -14,9 +13,9 @@ use Rattle.jam.specs.Jam.{must_cross, crosses_before, how_many, crossing, overfu
 use Rattle.jam.specs.Jam.{first_from, first_in, fewer, fewest_below, the_jam}
 use Rattle.jam.specs.Members.{row_jam, of_row, members_of}
 
--- Each row's cells in the jam, zeros where there is none.
+-- Each row's cells in the jam; where there is none, those that must cross link 0 before slot 0, of which there are none.
 abbrev marked : Freight → Option Jam → List ℕ
-marked F None = replicate (length F.len) 0
+marked F None = members_of F 0 0
 marked F (Some found) = members_of F found.link.0 found.before.0
 
 -- The jam of a table, and each row's cells in it.

@@ -2,9 +2,9 @@
 -- earlier are those that must cross before b.
 --     count_before, count_next                 the cells that must cross before one slot more
 --     count_few                               they are no more than there are
---     ends_none, ends_entry                   the list of the counts by end
+--     ends_none, ends_long, ends_entry         the list of the counts by end
 --     counted_nowhere                         a cell that does not cross
---     end_inside, count_small, counted        one that does
+--     end_inside, end_known, count_small, counted     one that does
 --     counted_all                             all cells
 -- Assumes nothing.
 use mathlib.Core.Path.{◌≡◌, refl, ◌∙◌, ap, sym}
@@ -19,7 +19,7 @@ use lib.Dec.{leb, ltb, eqb}
 use lib.ListN.{length, get_or, set, replicate}
 use Rattle.std.proofs.Common.{Option, None, Some}
 use Rattle.std.proofs.lemmas.Option.{none-some, same_Some}
-use Rattle.lists.proofs.Build.{get_or_build, build_ext, build_const, set-build}
+use Rattle.lists.proofs.Build.{length-build, get_or_build, build_ext, build_const, set-build}
 use Rattle.slack.specs.declared.Cell.{Cell}
 use Rattle.slack.proofs.Cells.{no_cell, dst_at, due_at}
 use Rattle.slack.specs.Slack.{Traffic, traffic_in, dsts_in, dues_in}
@@ -118,6 +118,11 @@ module _ (T : Traffic) (start : List ℕ) (p : ℕ) where
   unfolding ends how_many
   ends_none size = sym (build_const size 0)
 
+  -- There are as many as asked for.
+  ends_long : (size i : ℕ) → length (ends T start p size i) ≡ size
+  unfolding ends
+  ends_long size i = length-build size (λ b. how_many i (ends_at T start p b))
+
   -- Each is how many cells have that end.
   pub ends_entry : (size i b : ℕ) → b < size → get_or (ends T start p size i) b 0 ≡ how_many i (ends_at T start p b)
   unfolding ends
@@ -191,6 +196,9 @@ module _ (cells : List Cell) {nodes : ℕ} {left : List ℕ} {size : ℕ} (searc
         end_inside =
             let links = (away nodes p (get_or (dsts_in cells) i 0) inside (searched.ring.dst_inside i in_left)).some in
             omega (arith, there.1, searched.dues i in_left, links)
+
+        pub end_known : e < length counts
+        end_known = omega (arith, end_inside, ap length so_far, ends_long T left p size i)
 
         -- The count so far is below 1,024.
         pub count_small : get_or counts e 0 < 1024

@@ -1,5 +1,4 @@
 -- The search, slot by slot and link by link.
---     widened                                   there are counts for more slots than the table has
 --     Scanned, scanned_none, scanned_end        the scan of a link's slots, at the first and behind the last
 --     sum_small, scanned_here, scanned_more     one slot
 --     compared_more                             one link more is compared
@@ -51,18 +50,6 @@ module _ (T : Traffic) (start : List ℕ) (p slots b : ℕ) where
       over : suc slots - b ≡ 0
       over = omega arith
 
--- There are counts for more slots than the table has.
-pub widened : {T : Traffic} {start : List ℕ} {size more : ℕ} → Searched T start size → size ≤ more → more ≤ 1025
-    → Searched T start more
-widened searched l short =
-    record {
-      ring = searched.ring;
-      small = searched.small;
-      few = searched.few;
-      dues = λ i known. omega (arith, searched.dues i known);
-      short = short;
-    }
-
 -- The scan has come to slot b, and the link is overfull before none of the slots in front of it.
 pub record Scanned (T : Traffic) (start : List ℕ) (p slots b cells : ℕ) : Type 0 where
   pub sum : cells ≡ count_before T start p b
@@ -81,11 +68,11 @@ module _ {T : Traffic} {start : List ℕ} {p slots b cells : ℕ} (scanned : Sca
   scanned_end l = sym (scanned.rest ∙ first_end T start p slots b l)
 
   module _ {size : ℕ} {counts : List ℕ} (searched : Searched T start size)
-      (all : counts ≡ ends T start p 1025 (length start)) (inside : b ≤ slots) (fits : slots < 1025) where
+      (all : counts ≡ ends T start p size (length start)) (inside : b ≤ slots) (fits : slots < size) where
     sum_is : cells + get_or counts b 0 ≡ crossing T start p b
     sum_is =
         let entry : get_or counts b 0 ≡ how_many (length start) (ends_at T start p b)
-        = ap (λ (l : List ℕ). get_or l b 0) all ∙ ends_entry T start p 1025 (length start) b (omega arith) in
+        = ap (λ (l : List ℕ). get_or l b 0) all ∙ ends_entry T start p size (length start) b (omega arith) in
         omega (arith, scanned.sum, count_next T start p b)
 
     -- The cells with those of slot b are at most 1,024.

@@ -8,6 +8,7 @@ ghost use Rattle.jam.specs.Jam.{first_in, fewer, the_jam};
 ghost use Rattle.jam_search.specs.Steps.{Searched, end_of, ends};
 
 use jam::Jam;
+use lists::{clear, zeros};
 use ring::{Node, Slot, links_between};
 use slack::{Cargo, Cell};
 
@@ -39,26 +40,27 @@ fn end_of(nodes: u16, cell: Cell, left: u16, link: u16) -> Option<usize>
     Some(last.saturating_sub(on.0 as usize))
 }
 
-// How many cells have each slot up to 1,024 as their end.
-fn count_ends(cargo: Cargo, left: &[u16], link: u16) -> [u16; 1025]
-    requires { Searched (traffic_of cargo) left.now 1025 × (link < cargo.nodes) }
-    ensures { result ≡ ends (traffic_of cargo.entry) left.now link 1025 (length left.now) }
+// Counts for each slot how many cells have it as their end.
+fn count_ends(cargo: Cargo, left: &[u16], link: u16, counts: &mut [u16])
+    requires { Searched (traffic_of cargo) left.now (length counts.old) × (link < cargo.nodes) }
+    ensures { counts.new ≡ ends (traffic_of cargo.entry) left.now link (length counts.old) (length left.now) }
 {
-    let mut counts = [0u16; 1025];
+    clear(counts);
     for (i, cell) in cargo.cells.iter().enumerate() {
         if let Some(end) = end_of(cargo.nodes, *cell, left[i], link) {
             counts[end] += 1;
         }
     }
-    counts
 }
 
-// Of one link, the first slot before which it is overfull, if there is one.
-fn first_in(cargo: Cargo, left: &[u16], slots: u16, link: u16) -> Option<Jam>
-    requires { Searched (traffic_of cargo) left.now (suc slots) × (link < cargo.nodes) }
+// Of one link, the first slot before which it is overfull, if there is one; `counts` has a place for each slot up to the
+// last due slot, that one too.
+fn first_in(cargo: Cargo, left: &[u16], slots: u16, link: u16, counts: &mut [u16]) -> Option<Jam>
+    requires { Searched (traffic_of cargo) left.now (length counts.old) × (link < cargo.nodes)
+        × (length counts.old ≡ suc slots) }
     ensures { result ≡ first_in (traffic_of cargo.entry) left.now slots link }
 {
-    let counts = count_ends(cargo, left, link);
+    count_ends(cargo, left, link, counts);
     let mut sum = 0u16;
     for b in 0..=slots {
         sum += counts[b as usize];
@@ -73,15 +75,18 @@ fn first_in(cargo: Cargo, left: &[u16], slots: u16, link: u16) -> Option<Jam>
     None
 }
 
-// The jam of fewest cells, where the last due slot is `slots`; none where no link is overfull.
+// The jam of fewest cells, where the last due slot is `slots`; none where no link is overfull. The places for the counts
+// are made once, and only as many as there are slots are cleared for each link.
 #[tactic(auto, unfolding(jam::specs::Jam::fewest_below, jam::specs::Jam::the_jam))]
 pub fn find_jam(cargo: Cargo, left: &[u16], slots: u16) -> Option<Jam>
     requires { Searched (traffic_of cargo) left.now (suc slots) }
     ensures { result ≡ the_jam (traffic_of cargo.entry) left.now slots }
 {
+    let mut room: [u16; 1025] = zeros();
+    let counts = &mut room[..slots as usize + 1];
     let mut found = None;
     for link in 0..cargo.nodes {
-        found = fewer_of(found, first_in(cargo, left, slots, link));
+        found = fewer_of(found, first_in(cargo, left, slots, link, counts));
     }
     found
 }

@@ -2,10 +2,10 @@
 -- Assumes nothing.
 use mathlib.Core.Path.{◌≡◌, ◌∙◌, sym}
 use mathlib.Core.Bool.{false}
-use mathlib.Core.List.{List}
+use mathlib.Core.List.{List, ◌++◌}
 use Prim.Native.Nat.{ℕ, ◌≤◌, ◌<◌}
 use borrow.Author.Tests.{lt-ltb, le-ltb, ne_eqb}
-use lib.ListN.{drop}
+use lib.ListN.{length, drop}
 use Rattle.std.proofs.Common.{Ok, Err}
 use Rattle.table.specs.Table.{refuse}
 use Rattle.table.specs.declared.Row.{Row}
@@ -14,6 +14,7 @@ use Rattle.text.specs.Text.{line_feed, nodes_key, rows_key, line_good, nodes_in,
 use Rattle.text.specs.Text.{reading_of_body, reading_of, rows_read, rows_at, wrong_line, rows_keys}
 use Rattle.lines.specs.declared.Item.{Item}
 use Rattle.lines.proofs.Seen.{Seen}
+use Rattle.reader.proofs.Loading.{rows_at_length}
 
 module _ (text : List ℕ) (lent : ℕ) where
   pub first_wrong : line_good nodes_key text ≡ false → reading_of text lent ≡ Err (refuse 20 1 0)
@@ -63,12 +64,13 @@ module _ (text : List ℕ) (lent : ℕ) where
           unfolding reading_of_rows
           line_wrong line e = bodied ∙ rw (← e.0, ne_eqb line 0 (λ z. omega arith))
 
-          pub all_read : {read : List Row} → (wrong_line (rows_keys rows.value) body 3 ≡ 0)
-              × (read ≡ rows_at rows.value body)
+          pub all_read : (before : List Row) {places : List Row} → (wrong_line (rows_keys rows.value) body 3 ≡ 0)
+              × (places ≡ rows_at rows.value body ++ drop rows.value before)
               → (reading_of text lent ≡ Ok (record { nodes = nodes.value; rows = rows.value }))
-              × (read ≡ rows_read text lent)
+              × (places ≡ rows_read text lent ++ drop (length (rows_read text lent)) before)
           unfolding reading_of_rows rows_read
-          all_read e =
+          all_read before e =
               let so : reading_of text lent ≡ Ok (record { nodes = nodes.value; rows = rows.value }) =
               bodied ∙ rw e.0 in
-              (so, e.1 ∙ rw (so, body_is))
+              let read : rows_read text lent ≡ rows_at rows.value body = rw (so, body_is) in
+              (so, e.1 ∙ rw (read, rows_at_length rows.value body))

@@ -1,3 +1,3 @@
 mod Loading
 mod Heading
-mod Taking
+pub mod Taking

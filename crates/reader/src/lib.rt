@@ -1,35 +1,33 @@
 // Reads the text of a table, line by line, into rows.
 #![tactic(auto)]
 
-ghost use Rattle.std.specs.Prelude.{◌≤◌};
-ghost use Rattle.text.specs.Text.{TextTaken};
-ghost use Rattle.reader.specs.Reader.{TextParsed};
+ghost use Rattle.std.specs.Prelude.{◌≤◌, length};
+ghost use Rattle.text.specs.Text.{TextParsed, TextTaken};
 ghost use Rattle.reader.specs.Steps.{RowsRead};
 
-use arrayvec::ArrayVec;
 use lines::{line_at, row_at};
 use table::{Refusal, Row};
-use text::{Header, ROW_LINES};
+use text::{Header, Parsed, ROW_LINES};
 
-// A text that was read: the head of its table, and the rows.
-#[derive(Drop)]
-pub struct Parsed {
-    pub head: Header,
-    pub rows: ArrayVec<Row, 512>,
-}
+// The row of four zeros, which stands where no row is read.
+const BLANK: Row = Row {
+    src: 0,
+    dst: 0,
+    len: 0,
+    due: 0,
+};
 
 // Reads the lines of so many rows, and nothing behind them, or finds the first that is wrong.
-fn read_rows(text: &[u8], count: usize) -> Result<ArrayVec<Row, 512>, u16>
-    requires { count ≤ 512 }
-    ensures { RowsRead count text.now result }
+fn read_rows(text: &[u8], count: usize, rows: &mut [Row]) -> Result<(), u16>
+    requires { (count ≤ 512) × (count ≤ length rows.old) }
+    ensures { RowsRead count text.now rows.old rows.new result }
 {
-    let mut rows = ArrayVec::new();
     let mut rest = text;
     let mut line = 3u16;
-    for _ in 0..count {
+    for i in 0..count {
         match row_at(rest) {
             Ok(seen) => {
-                rows.push(seen.row);
+                rows[i] = seen.row;
                 rest = &rest[seen.length..];
             }
             Err(right) => return Err(line + right),
@@ -39,7 +37,7 @@ fn read_rows(text: &[u8], count: usize) -> Result<ArrayVec<Row, 512>, u16>
     if !rest.is_empty() {
         return Err(line);
     }
-    Ok(rows)
+    Ok(())
 }
 
 // Reads a text, where so many records are lent: the lines of the heading first, and then those of the rows.
@@ -60,8 +58,9 @@ pub fn parse(text: &[u8], lent: usize) -> Result<Parsed, Refusal>
     if lent < count {
         return Err(Refusal::of_table(21));
     }
-    match read_rows(&second[rows.length..], count) {
-        Ok(read) => Ok(Parsed {
+    let mut read = [BLANK; 512];
+    match read_rows(&second[rows.length..], count, &mut read[..]) {
+        Ok(()) => Ok(Parsed {
             head: Header {
                 nodes: nodes.value,
                 rows: rows.value,
@@ -77,6 +76,7 @@ pub fn read(text: &[u8], rows: &mut [Row]) -> Result<Header, Refusal>
     ensures { TextTaken text.now rows.old result rows.new }
 {
     let parsed = parse(text, rows.len())?;
-    rows[..parsed.rows.len()].copy_from_slice(&parsed.rows);
+    let count = parsed.head.rows as usize;
+    rows[..count].copy_from_slice(&parsed.rows[..count]);
     Ok(parsed.head)
 }

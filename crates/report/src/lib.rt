@@ -115,6 +115,9 @@ pub fn respond(text: &[u8], area: &mut [u8]) -> usize
 {
     match parse(text, 512) {
         Err(refusal) => put_verdict(area, refusal),
-        Ok(parsed) => respond_table(parsed.head.nodes, &parsed.rows, area),
+        Ok(parsed) => {
+            let count = parsed.head.rows as usize;
+            respond_table(parsed.head.nodes, &parsed.rows[..count], area)
+        }
     }
 }

@@ -11,7 +11,7 @@ use Rattle.slack.specs.Slack.{dsts_in, dues_in, owners_in}
 
 -- What a list of cells is taken to hold behind its end.
 abbrev pub no_cell : Cell
-no_cell = record { dst = record { 0 = 0 }; due = record { 0 = 0 }; row = 0 }
+no_cell = record { dst = record { 0 = 0 }; due = record { 0 = 0 }; row = 0; place = 0 }
 
 module _ (cells : List Cell) where
   pub dsts_long : length (dsts_in cells) ≡ length cells

@@ -2,6 +2,7 @@
 #![tactic(auto)]
 
 ghost use Rattle.std.specs.Prelude.{◌≡◌, ℕ, ◌≤◌, length, replicate};
+ghost use Rattle.planner.specs.Planner.{Planned};
 
 use area::{Area, list_rows};
 use lists::zeros;
@@ -29,6 +30,13 @@ fn untouched<const N: usize>() -> [u16; N]
     ensures { result ≡ replicate {A = ℕ} N 65535 }
 {
     [UNTOUCHED; N]
+}
+
+// Plans the rows of a case, all of them, in the areas that are printed.
+fn plan_case(nodes: u16, rows: &[Row], entries: &mut [u16], arrivals: &mut [u16]) -> Reply
+    ensures { Planned nodes rows.now entries.old arrivals.old result entries.new arrivals.new }
+{
+    plan(nodes, rows, entries, arrivals)
 }
 
 // How many entries at the front of an area a case touched.
@@ -173,7 +181,7 @@ fn print_areas(
 fn run_case(rt: &impl Print, letter: &[u8], nodes: u16, rows: &[Row]) -> io::Result<()> {
     let mut entries: [u16; 2050] = untouched(); // the longest plan of the sweep, and two entries more
     let mut arrivals: [u16; 4] = untouched(); // three rows, and one entry more
-    let reply = plan(nodes, rows, &mut entries, &mut arrivals);
+    let reply = plan_case(nodes, rows, &mut entries, &mut arrivals);
     rt.write_all(b"case=")?;
     rt.write_all(letter)?;
     rt.write_all(b"\n")?;
@@ -252,7 +260,7 @@ fn run_edited(rt: &impl Print, table: &Area) -> io::Result<()> {
     let mut entries: [u16; 2050] = untouched(); // the longest plan of the sweep, and two entries more
     let mut arrivals: [u16; 4] = untouched(); // three rows, and one entry more
     let rows = list_rows(table);
-    let reply = plan(table[0], rows.as_slice(), &mut entries, &mut arrivals);
+    let reply = plan_case(table[0], rows.as_slice(), &mut entries, &mut arrivals);
     print_areas(rt, 4, reply, &entries, &arrivals)
 }
 

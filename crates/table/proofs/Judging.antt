@@ -1,4 +1,5 @@
 -- The search for the first bad row: the whole judgement is that of the rows from row i on.
+--     never_good                             a refusal is no praise
 --     judge_here, judge_next, judge_end      row i is bad; it is good; there is no row any more
 --     good_rows                              every row of a table without a bad row is good
 --     all_bad, all_many, all_few              a bad row, too many cells, neither: the verdict on rows and cells
@@ -21,6 +22,10 @@ use Rattle.table.specs.declared.Refusal.{Refusal}
 use Rattle.table.specs.Table.{latest_due, most_length, most_cells, refuse, Verdict, row_refusal, after_row, judge_rows}
 use Rattle.table.specs.Table.{after_rows, judge_all, cells_in}
 use Rattle.table.specs.Steps.{none}
+
+-- A refusal is no praise.
+pub never_good : (x : Refusal) → ◌≡◌ {A = Verdict} (Err x) (Ok tt) → ⊥
+never_good x e = absurd cc
 
 module _ (n : ℕ) (rows : List Row) (i : ℕ) where
   pub judge_here : (number : ℕ) → i < length rows → row_refusal n (get_or rows i none) ≡ Err number

@@ -1,10 +1,12 @@
 -- The table as text, in the words of document 01: lines of key=value in a fixed order, and what is wrong with a text.
-use Rattle.std.specs.Prelude.{ℕ, zero, suc, ◌+◌, ◌-◌, ◌*◌, ◌/◌, ◌%◌, ◌≤◌, ◌≡◌, Bool, true, false, cond, ◌&&◌, List, [], ◌∷◌, ◌++◌, eqb, ltb, leb, length, get_or, drop}
+use Rattle.std.specs.Prelude.{ℕ, zero, suc, ◌+◌, ◌-◌, ◌*◌, ◌/◌, ◌%◌, ◌≤◌, ◌≡◌, Bool, true, false, cond, ◌&&◌, List, [], ◌∷◌, ◌++◌, eqb, ltb, leb, length, get_or, drop, replicate}
 use Rattle.std.specs.Prelude.{Result, Ok, Err}
 use Rattle.table.specs.Table.{refuse, most_rows, row_numbers, row_by}
+use Rattle.table.specs.Steps.{none}
 use Rattle.table.specs.declared.Row.{Row}
 use Rattle.table.specs.declared.Refusal.{Refusal}
 use Rattle.text.specs.declared.Header.{Header}
+use Rattle.text.specs.declared.Parsed.{Parsed}
 
 -- A line feed, and the digit 0.
 abbrev pub line_feed : ℕ
@@ -234,6 +236,14 @@ area_after n rows area =
 abbrev pub number_of_writing : Writing → ℕ
 number_of_writing (Ok n) = 0
 number_of_writing (Err r) = r.number
+
+-- A text was read, where so many records are lent: its head, and its rows in the front of 512 places with zeros behind
+-- them; or why it is refused.
+abbrev pub TextParsed : (text : List ℕ) (lent : ℕ) → Result Parsed Refusal → Type 0
+TextParsed text lent (Ok p) =
+    (reading_of text lent ≡ Ok p.head)
+    × (p.rows ≡ rows_read text lent ++ drop (length (rows_read text lent)) (replicate most_rows none))
+TextParsed text lent (Err r) = reading_of text lent ≡ Err r
 
 -- What `read` promises, where those rows are lent: the answer is the reading, the rows that it gives fill the front of
 -- the list, and the rest is as it was. A refused reading gives no rows.

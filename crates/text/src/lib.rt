@@ -15,6 +15,14 @@ pub struct Header {
     pub rows: u16,
 }
 
+// A text that was read: the head of its table, and a place for each row that a table may have, of which the head says how
+// many are read. It has no list with a length of its own, so that whoever parsed a text may copy what came of it.
+#[derive(Clone, Copy)]
+pub struct Parsed {
+    pub head: Header,
+    pub rows: [Row; 512],
+}
+
 // How many lines a row has.
 pub const ROW_LINES: usize = 4;
 

@@ -1,2 +1,3 @@
 mod Left
+mod Lent
 mod Outcomes

@@ -4,13 +4,13 @@ use mathlib.Core.Path.{◌∙◌}
 use native.Mathlib.Omega.{arith}
 use Rattle.jam_search.proofs.Cells.{left_known, dst_known}
 use Rattle.jam_search.proofs.Counting.{ends_none, counted_nowhere}
-use Rattle.jam_search.proofs.Counting.{end_inside, count_small, counted, counted_all}
+use Rattle.jam_search.proofs.Counting.{end_inside, end_known, count_small, counted, counted_all}
 use Rattle.slack.specs.Slack.{traffic_of}
 use Rattle.jam_search.proofs.count_ends.Goals as goal
 use Rattle.jam_search.proofs.count_ends.Goals.{in-Some, in_default}
 
 pub loop-i-init : goal.loop-i-init
-loop-i-init c = ends_none (traffic_of c.args.cargo) c.args.left.now c.args.link 1025
+loop-i-init c = c.clear.ensures ∙ ends_none (traffic_of c.args.cargo) c.args.left.now c.args.link _
 
 pub end_of-requires : goal.end_of-requires
 end_of-requires c = (c.requires.1, dst_known c.args.cargo.cells.now c.requires.0.ring c.loop-i-test.true)
@@ -20,11 +20,11 @@ bounds-left-i c = left_known c.args.cargo.cells.now c.requires.0.ring c.loop-i-t
 
 pub bounds-counts-end : goal.bounds-counts-end
 bounds-counts-end c =
-    end_inside c.args.cargo.cells.now c.requires.0 c.loop-i-test.true c.requires.1 c.loop-i.invariant c.end_of.ensures c.in-Some.is
+    end_known c.args.cargo.cells.now c.requires.0 c.loop-i-test.true c.requires.1 c.loop-i.invariant c.end_of.ensures c.in-Some.is
 
 pub bounds-counts-end-in-Some : goal.bounds-counts-end-in-Some
 bounds-counts-end-in-Some c =
-    end_inside c.args.cargo.cells.now c.requires.0 c.loop-i-test.true c.requires.1 c.loop-i.invariant c.end_of.ensures c.in-Some.is
+    end_known c.args.cargo.cells.now c.requires.0 c.loop-i-test.true c.requires.1 c.loop-i.invariant c.end_of.ensures c.in-Some.is
 
 pub offset_bounds-counts-end : goal.offset_bounds-counts-end
 offset_bounds-counts-end c =

@@ -67,7 +67,7 @@ returns-in-Ok c =
     let here = take_rest text c.in-Some.nodes.length in
     let two = then _ c.line_at-2.ensures c.in-Some-line_at.is in
     let there = take_rest _ c.in-Some-line_at.rows.length in
-    all_read text c.args.lent one here two there c.if-count-gt512.false c.if-lent-count.false c.in-Ok.ensures
+    all_read text c.args.lent one here two there c.if-count-gt512.false c.if-lent-count.false _ c.in-Ok.ensures
 
 pub returns-in-Err : goal.returns-in-Err
 returns-in-Err c =

@@ -2,5 +2,5 @@
 use Rattle.reader.proofs.Loading.{Loaded}
 use Rattle.reader.proofs.read_rows.Given as goal
 
-abbrev pub invariant-loop : goal.invariant-loop
-invariant-loop l = Loaded l.text l.count l.rows.items l.rest l.line l.counter
+abbrev pub invariant-loop-i : goal.invariant-loop-i
+invariant-loop-i l = Loaded l.text l.count l.fn.rows l.rows l.rest l.line l.i
