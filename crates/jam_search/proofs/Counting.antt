@@ -191,12 +191,13 @@ module _ (cells : List Cell) {nodes : ℕ} {left : List ℕ} {size : ℕ} (searc
             go true f g = (leb-true far (get_or left i 0) f, sym (same_Some _ _ g))
             go false f g = absurd (none-some e g)
 
-        -- There is a count for its end.
+        -- Its end lies among the slots that are counted for.
         pub end_inside : e < size
         end_inside =
             let links = (away nodes p (get_or (dsts_in cells) i 0) inside (searched.ring.dst_inside i in_left)).some in
             omega (arith, there.1, searched.dues i in_left, links)
 
+        -- So there is a count for it.
         pub end_known : e < length counts
         end_known = omega (arith, end_inside, ap length so_far, ends_long T left p size i)
 

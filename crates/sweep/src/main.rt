@@ -177,15 +177,20 @@ fn print_areas(
     print_outcome(rt, nodes, reply, &plan[..entries], &arrivals[..instants])
 }
 
-// Plans one case in fresh areas and writes what it came to.
-fn run_case(rt: &impl Print, letter: &[u8], nodes: u16, rows: &[Row]) -> io::Result<()> {
+// Plans rows in fresh areas and writes what it came to.
+fn print_planned(rt: &impl Print, nodes: u16, rows: &[Row]) -> io::Result<()> {
     let mut entries: [u16; 2050] = untouched(); // the longest plan of the sweep, and two entries more
     let mut arrivals: [u16; 4] = untouched(); // three rows, and one entry more
     let reply = plan_case(nodes, rows, &mut entries, &mut arrivals);
+    print_areas(rt, nodes as usize, reply, &entries, &arrivals)
+}
+
+// Writes a case's letter, and what its rows come to.
+fn run_case(rt: &impl Print, letter: &[u8], nodes: u16, rows: &[Row]) -> io::Result<()> {
     rt.write_all(b"case=")?;
     rt.write_all(letter)?;
     rt.write_all(b"\n")?;
-    print_areas(rt, nodes as usize, reply, &entries, &arrivals)
+    print_planned(rt, nodes, rows)
 }
 
 // The cases of document 01's sweep table that are accepted or late.
@@ -257,11 +262,8 @@ fn run_changing(rt: &impl Print, table: &mut Area) -> io::Result<()> {
 
 // Plans the table that was edited.
 fn run_edited(rt: &impl Print, table: &Area) -> io::Result<()> {
-    let mut entries: [u16; 2050] = untouched(); // the longest plan of the sweep, and two entries more
-    let mut arrivals: [u16; 4] = untouched(); // three rows, and one entry more
     let rows = list_rows(table);
-    let reply = plan_case(table[0], rows.as_slice(), &mut entries, &mut arrivals);
-    print_areas(rt, 4, reply, &entries, &arrivals)
+    print_planned(rt, table[0], rows.as_slice())
 }
 
 // Edits a table, and plans it.
